@@ -1,0 +1,2 @@
+-- What a book of periods means and promises. Read in this order: Meaning.
+pub mod Meaning
