@@ -1,0 +1,12 @@
+// Planning: from a book of periods to the least hyperperiod and the chosen period of each task.
+// Each call answers by the book's meaning alone. What is promised starts in
+// specs/Hyperperiod.antt.
+
+mod chosen;
+mod hyperperiod;
+mod multiples;
+mod refusal;
+
+pub use chosen::chosen_period;
+pub use hyperperiod::seek;
+pub use refusal::Refusal;
