@@ -18,6 +18,7 @@ pub record Rising {X : Type 0} (le : X → X → Bool) (xs : List X) (j n : ℕ)
   pub over : (p k : ℕ) (d : X) → p * 2 + 1 ≤ j → j ≤ p * 2 + 2 → j * 2 + 1 ≤ k → k ≤ j * 2 + 2 → k < n → le (getD xs p d) (getD xs k d) ≡ true
 
 module _ {X : Type 0} (le : X → X → Bool) where
+  -- the last element is the one that may rise
   pub rise-begins : (xs : List X) (j n : ℕ) → length xs ≡ n → n ≡ j + 1 → Sound le (take j xs) → Rising le xs j n
   rise-begins xs j n long last h = record {
     edges = λ p k d from to f u.
@@ -27,6 +28,7 @@ module _ {X : Type 0} (le : X → X → Bool) where
     over = λ p k d from to from′ to′ f. absurd (omega arith);
   }
 
+  -- it rests where its parent is at most it
   pub rise-rests : (xs : List X) (p j n : ℕ) → length xs ≡ n → p * 2 + 1 ≤ j → j ≤ p * 2 + 2 → ((d : X) → le (getD xs p d) (getD xs j d) ≡ true) → Rising le xs j n → Sound le xs
   rise-rests xs p j n long from to right h =
       sound-from-heaped le xs n long (λ q k d low a b f. ⊎-elim
@@ -34,10 +36,12 @@ module _ {X : Type 0} (le : X → X → Bool) where
       (h .edges q k d a b f)
       (cases-eq k j))
 
+  -- or at the first place, which has no parent
   pub rise-tops : (xs : List X) (j n : ℕ) → length xs ≡ n → j ≡ 0 → Rising le xs j n → Sound le xs
   rise-tops xs j n long top h = sound-from-heaped le xs n long (λ q k d low a b f. h .edges q k d a b f (omega arith))
 
   module _ (o : TotalOrder le) (xs ys : List X) (p j n : ℕ) (from : p * 2 + 1 ≤ j) (to : j ≤ p * 2 + 2) (inside : j < n) (at-p : (d : X) → getD ys p d ≡ getD xs j d) (at-j : (d : X) → getD ys j d ≡ getD xs p d) (other : (k : ℕ) (d : X) → (k ≡ p → ⊥) → (k ≡ j → ⊥) → getD ys k d ≡ getD xs k d) where
+    -- a swap with its parent takes it one level up
     pub rise-steps : ((d : X) → le (getD xs p d) (getD xs j d) ≡ false) → Rising le xs j n → Rising le ys p n
     rise-steps wrong h =
         let right : (d : X) → le (getD xs j d) (getD xs p d) ≡ true = λ d. o .total _ _ (wrong d) in

@@ -1,15 +1,14 @@
 -- The first element of a list that is arranged as a heap is least.
-use mathlib.Core.Path.{_≡_, refl, ap, _∙_}
-use mathlib.Core.Bool.{Bool, true, false}
+use mathlib.Core.Path.{_≡_, refl, ap}
+use mathlib.Core.Bool.{Bool, true}
 use mathlib.Core.List.{List}
 use mathlib.Core.Logic.{⊎-elim}
-use Prim.Native.Nat.{ℕ, zero, suc, _+_, _-_, _*_, _/_, _≤_, _<_}
+use Prim.Native.Nat.{ℕ, zero, suc, _-_, _/_, _≤_, _<_}
 use native.Mathlib.Omega.{arith}
 use lib.ListN.{getD, length}
 use Rattle.std.proofs.shelf.Elements.{all-from-getD}
 use Rattle.std.proofs.shelf.Tests.{cases-eq}
 use Rattle.orders.specs.Order.{TotalOrder, Sound, Least}
-use Rattle.orders.specs.Sifting.{Heaped}
 use Rattle.orders.proofs.Orders.{by, itself}
 use Rattle.orders.proofs.Parents.{heaped-from-sound}
 

@@ -18,15 +18,6 @@ pub record Sinking {X : Type 0} (le : X → X → Bool) (xs : List X) (low j n :
   pub over : (p k : ℕ) (d : X) → low ≤ p → p * 2 + 1 ≤ j → j ≤ p * 2 + 2 → j * 2 + 1 ≤ k → k ≤ j * 2 + 2 → k < n → le (getD xs p d) (getD xs k d) ≡ true
 
 module _ {X : Type 0} (le : X → X → Bool) where
-  pub sink-begins : (xs : List X) (j n : ℕ) → Heaped le xs (j + 1) n → Sinking le xs j j n
-  sink-begins xs j n h = record {
-    edges = λ p k d low from to f u. h p k d (omega arith) from to f;
-    over = λ p k d low from to from′ to′ f. absurd (omega arith);
-  }
-
-  pub sink-ends : (xs : List X) (low j n : ℕ) → n ≤ j * 2 + 1 → Sinking le xs low j n → Heaped le xs low n
-  sink-ends xs low j n none h p k d l from to f = h .edges p k d l from to f (omega arith)
-
   -- to be first, a child has only to be at most the other one
   pub child-first : TotalOrder le → (xs : List X) (j c : ℕ) → j * 2 + 1 ≤ c → c ≤ j * 2 + 2 → c < length xs → ((k : ℕ) (d : X) → j * 2 + 1 ≤ k → k ≤ j * 2 + 2 → k < length xs → (k ≡ c → ⊥) → le (getD xs c d) (getD xs k d) ≡ true) → FirstChild le xs j c
   child-first o xs j c from to inside right = record {
@@ -40,6 +31,7 @@ module _ {X : Type 0} (le : X → X → Bool) where
   }
 
   module _ (o : TotalOrder le) (xs : List X) (low j c n : ℕ) (long : length xs ≡ n) (child : FirstChild le xs j c) where
+    -- the element rests where it is at most its first child
     pub sink-rests : ((d : X) → le (getD xs j d) (getD xs c d) ≡ true) → Sinking le xs low j n → Heaped le xs low n
     sink-rests right h p k d l from to f =
         ⊎-elim
@@ -48,6 +40,7 @@ module _ {X : Type 0} (le : X → X → Bool) where
         (cases-eq p j)
 
     module _ (ys : List X) (reached : low ≤ j) (at-j : (d : X) → getD ys j d ≡ getD xs c d) (at-c : (d : X) → getD ys c d ≡ getD xs j d) (other : (k : ℕ) (d : X) → (k ≡ j → ⊥) → (k ≡ c → ⊥) → getD ys k d ≡ getD xs k d) where
+      -- a swap with its first child takes it one level down
       pub sink-steps : ((d : X) → le (getD xs j d) (getD xs c d) ≡ false) → Sinking le xs low j n → Sinking le ys low c n
       sink-steps wrong h = record {
         edges = λ p k d l a b f u. ⊎-elim

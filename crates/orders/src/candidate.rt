@@ -2,7 +2,7 @@ ghost use Rattle.orders.specs.Models.{candidate-le};
 use crate::ranked::Ranked;
 
 // A number that one task proposes.
-#[derive(Clone, Copy, Debug, PartialEq, Eq)]
+#[derive(Clone, Copy)]
 pub struct Candidate {
     pub number: u32,
     pub task: u32,

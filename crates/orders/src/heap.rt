@@ -1,9 +1,9 @@
 ghost use denote.Ref.{name};
 ghost use lib.Dec.{ltb};
 ghost use lib.ListN.{length, take, drop};
-ghost use mathlib.Core.List.{List, [], _∷_};
+ghost use mathlib.Core.List.{[], _∷_};
 ghost use mathlib.Core.Path.{_≡_};
-ghost use Prim.Native.Nat.{ℕ, _+_, _<_, min};
+ghost use Prim.Native.Nat.{_+_, min};
 ghost use Rattle.orders.specs.Held.{held, memory, room};
 ghost use Rattle.orders.specs.Order.{Sound, Least};
 ghost use Rattle.std.specs.Options.{Cases as BySome};
@@ -74,7 +74,7 @@ impl<'a, T: Ranked + Copy> Heap<'a, T> {
         ensures sound { λ _. ⌜ (Sound (T·Ranked .le) (held (now (self .entry))) → Sound (T·Ranked .le) (held (now (self .exit)))) ⌝ }
         ensures lender { λ _. ⌜ name (now (self .exit) .slots) ≡ name (now (self .entry) .slots) ⌝ }
     {
-        let count = self.len.min(self.slots.len());
+        let count = self.len();
         if count == 0 {
             return None;
         }

@@ -2,7 +2,7 @@ ghost use Rattle.orders.specs.Models.{waiting-le};
 use crate::ranked::Ranked;
 
 // A job that waits to be served, with the end of its window.
-#[derive(Clone, Copy, Debug, PartialEq, Eq)]
+#[derive(Clone, Copy)]
 pub struct Waiting {
     pub end: u32,
     pub task: u32,

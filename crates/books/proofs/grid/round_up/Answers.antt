@@ -1,0 +1,9 @@
+use native.Mathlib.Omega.{arith}
+use Rattle.books.proofs.Multiples.{no-multiple-between}
+use Rattle.books.proofs.grid.round_up.Needs as need
+
+pub returns-else-past-eq0 : need.returns-else-past-eq0
+returns-else-past-eq0 c = record {
+  above = omega arith;
+  least = λ n. no-multiple-between (c .args .number) n (c .args .step) (omega arith) (omega arith);
+}
