@@ -39,10 +39,18 @@ pub fn lists(rt: &LibcRuntime, tasks: &[ListTask]) -> io::Result<ListBook> {
     for task in tasks {
         let name = task.name;
         let periods = task.periods;
-        println!(rt, "list,{name},{periods:?}")?;
+        print!(rt, "list,{name}")?;
+        list_line(rt, periods)?;
         refused(rt, book.add(periods))?;
     }
     Ok(book)
+}
+
+fn list_line(rt: &LibcRuntime, periods: &[u32]) -> io::Result<()> {
+    for period in periods {
+        print!(rt, ",{period}")?;
+    }
+    println!(rt, "")
 }
 
 fn refused(rt: &LibcRuntime, added: Result<(), EntryFault>) -> io::Result<()> {
