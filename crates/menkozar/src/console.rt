@@ -14,21 +14,53 @@ use books::SideBySideBook;
 use std::io;
 
 const RANGES: [RangeTask; 5] = [
-    RangeTask { name: "pulse", low: 4, high: 5 },
-    RangeTask { name: "brake", low: 8, high: 10 },
-    RangeTask { name: "cadence", low: 10, high: 12 },
-    RangeTask { name: "zones", low: 20, high: 30 },
-    RangeTask { name: "incline", low: 30, high: 20 },
+    RangeTask {
+        name: "pulse",
+        low: 4,
+        high: 5,
+    },
+    RangeTask {
+        name: "brake",
+        low: 8,
+        high: 10,
+    },
+    RangeTask {
+        name: "cadence",
+        low: 10,
+        high: 12,
+    },
+    RangeTask {
+        name: "zones",
+        low: 20,
+        high: 30,
+    },
+    RangeTask {
+        name: "incline",
+        low: 30,
+        high: 20,
+    },
 ];
 
 const LISTS: [ListTask; 3] = [
-    ListTask { name: "display", periods: &[25, 40, 50] },
-    ListTask { name: "radio", periods: &[100, 120, 125] },
-    ListTask { name: "upload", periods: &[500, 400] },
+    ListTask {
+        name: "display",
+        periods: &[25, 40, 50],
+    },
+    ListTask {
+        name: "radio",
+        periods: &[100, 120, 125],
+    },
+    ListTask {
+        name: "upload",
+        periods: &[500, 400],
+    },
 ];
 
 pub fn plan(rt: &LibcRuntime) -> io::Result<()> {
-    println!(rt, "A console: ranges and lists side by side, on a grid of 2")?;
+    println!(
+        rt,
+        "A console: ranges and lists side by side, on a grid of 2"
+    )?;
     let ranges = entries::ranges(rt, &RANGES)?;
     let lists = entries::lists(rt, &LISTS)?;
     let book = Grid::new(SideBySide::new(ranges, lists), 2);

@@ -14,23 +14,58 @@ use std::io;
 
 // The example of Brocal and others, 2013.
 const FOUR: [RangeTask; 4] = [
-    RangeTask { name: "a", low: 356, high: 372 },
-    RangeTask { name: "b", low: 653, high: 681 },
-    RangeTask { name: "c", low: 712, high: 742 },
-    RangeTask { name: "d", low: 97_994, high: 102_006 },
+    RangeTask {
+        name: "a",
+        low: 356,
+        high: 372,
+    },
+    RangeTask {
+        name: "b",
+        low: 653,
+        high: 681,
+    },
+    RangeTask {
+        name: "c",
+        low: 712,
+        high: 742,
+    },
+    RangeTask {
+        name: "d",
+        low: 97_994,
+        high: 102_006,
+    },
 ];
 
 const TWO: [RangeTask; 2] = [
-    RangeTask { name: "a", low: 10, high: 12 },
-    RangeTask { name: "b", low: 7, high: 9 },
+    RangeTask {
+        name: "a",
+        low: 10,
+        high: 12,
+    },
+    RangeTask {
+        name: "b",
+        low: 7,
+        high: 9,
+    },
 ];
 
-const LIST: [ListTask; 1] = [ListTask { name: "a", periods: &[4, 8, 16] }];
+const LIST: [ListTask; 1] = [ListTask {
+    name: "a",
+    periods: &[4, 8, 16],
+}];
 
-const BESIDE: [RangeTask; 1] = [RangeTask { name: "b", low: 10, high: 12 }];
+const BESIDE: [RangeTask; 1] = [RangeTask {
+    name: "b",
+    low: 10,
+    high: 12,
+}];
 
 // No multiple of 5 lies in the range.
-const OFF: [RangeTask; 1] = [RangeTask { name: "a", low: 7, high: 9 }];
+const OFF: [RangeTask; 1] = [RangeTask {
+    name: "a",
+    low: 7,
+    high: 9,
+}];
 
 pub fn ranges(rt: &LibcRuntime) -> io::Result<()> {
     println!(rt, "Four ranges (Brocal and others, 2013)")?;

@@ -1,6 +1,13 @@
--- What the planning layer promises. Read in this order: Hyperperiod, Refusals. Multiples and
--- Candidates serve inner functions alone.
+-- What the planning layer promises. Read in this order: Hyperperiod, Refusals; Placing, Theorems for the
+-- placing of jobs into frames; Windows, Sizes, Rows. Multiples, Candidates and Serving serve inner
+-- functions alone.
 pub mod Hyperperiod
 pub mod Refusals
+pub mod Placing
+pub mod Theorems
+pub mod Windows
+pub mod Sizes
+pub mod Rows
 pub mod Multiples
 pub mod Candidates
+pub mod Serving

@@ -4,9 +4,14 @@
 
 mod chosen;
 mod hyperperiod;
+mod job;
+pub mod laws;
 mod multiples;
 mod refusal;
 
 pub use chosen::chosen_period;
 pub use hyperperiod::seek;
+pub use job::Figures;
+pub use job::Job;
+pub use job::Row;
 pub use refusal::Refusal;
