@@ -1,13 +1,13 @@
 use Prim.Native.Nat.{ℕ, _≤_}
 use mathlib.Core.Path.{_≡_, _∙_}
-use mathlib.Core.Bool.{_&&_, true}
+use mathlib.Core.Bool.{_&&_}
 use mathlib.Core.List.{List, [], _∷_, _++_}
 use lib.Dec.{leb, ltb}
 use lib.ListN.{length}
 use Rattle.std.specs.declared.option.Option.the-variants.{Some, None}
 use Rattle.std.proofs.shelf.Tests.{and-from, cond-true, le-leb}
 use Rattle.books.specs.Questions.{Refused, ask, firstNo, periodQuestions, risingQuestions, listQuestions}
-use Rattle.books.proofs.Asked.{first-all-yes, first-some-no}
+use Rattle.books.proofs.FirstNo.{first-all-yes, first-some-no}
 
 -- Of a list of one to eight numbers, the other questions decide.
 module _ (ps : List ℕ) (count : ℕ) (some : 1 ≤ length ps) (few : length ps ≤ 8) where

@@ -3,6 +3,8 @@ mod Multiples
 mod Among
 mod Rising
 mod ListsFair
-mod Asked
+mod FirstNo
+mod NextQuestion
+mod QuestionsPassed
 mod AskedOfList
 mod RowHolds

@@ -1,12 +1,8 @@
-use Prim.Native.Nat.{ℕ, _≤_}
-use mathlib.Core.Path.{subst}
-use mathlib.Core.Bool.{true}
 use mathlib.Core.List.{[]}
 use native.Mathlib.Omega.{arith}
 use lib.ListN.{getD}
 use Rattle.std.proofs.shelf.Tests.{and-parts, ltb-true, leb-true}
 use Rattle.books.specs.Meaning.{Fair}
-use Rattle.books.specs.Periods.{periodsOf}
 use Rattle.books.specs.Sets.{listsOf}
 use Rattle.books.specs.declared.list_book.ListBook.{ListBook}
 use Rattle.books.proofs.Among.{place-of-among}

@@ -2,6 +2,7 @@ use Prim.Native.Nat.{ℕ, _+_, _-_, _*_, _/_, _%_, _≤_, _<_}
 use mathlib.Core.Path.{_≡_, ap, sym, _∙_}
 use mathlib.Core.Bool.{Bool, true}
 use mathlib.Core.Logic.{⊎-elim}
+use native.Mathlib.Nat.{add-mul}
 use native.Mathlib.Omega.{arith}
 use Rattle.std.proofs.shelf.Tests.{cases-lt}
 use Rattle.std.proofs.shelf.Bits.{div-add-mod', mod-mul-add, mod-below}
@@ -16,6 +17,14 @@ no-multiple-between a n step some part low high whole =
     let sum : base + (n - base) ≡ n = omega arith in
     let left : n % step ≡ n - base = ap (λ k. k % step) (sym sum) ∙ mod-mul-add (a / step) step (n - base) near in
     omega arith
+
+-- A number and what it lacks to the next multiple of the step make that multiple.
+pub next-multiple : (a step : ℕ) → 1 ≤ step → (a + (step - a % step)) % step ≡ 0
+next-multiple a step some =
+    let split : a / step * step + a % step ≡ a = div-add-mod' a step in
+    let rest : a % step < step = mod-below a step some in
+    let sum : a + (step - a % step) ≡ (a / step + 1) * step + 0 = omega (arith, add-mul (a / step) 1 step) in
+    ap (λ n. n % step) sum ∙ mod-mul-add (a / step + 1) step 0 some
 
 -- No number from 1 up to the step is a multiple of it.
 pub no-multiple-below : (n step : ℕ) → 1 ≤ n → n < step → n % step ≡ 0 → ⊥

@@ -5,7 +5,7 @@ use mathlib.Core.List.{List}
 use mathlib.Core.Logic.{⊎-elim}
 use native.Mathlib.Omega.{arith}
 use native.Mathlib.Numerals.{add-one}
-use lib.ListN.{length, getD, take}
+use lib.ListN.{getD, take}
 use Rattle.std.proofs.shelf.Tests.{cases-lt}
 use Rattle.books.specs.Sets.{isAmong}
 use Rattle.books.proofs.Among.{place-of-among}
@@ -18,7 +18,7 @@ rises-far xs n up j (suc k) le below =
     (λ (less : j < suc k).
     let step : getD xs k 0 < getD xs (suc k) 0 = rw add-one at (up k (omega arith)) in
     omega (arith, rises-far xs n up j k (omega arith) (omega arith)))
-    (λ more. let e : j ≡ suc k = omega arith in rw e (omega arith))
+    (λ (more : suc k ≤ j). let e : j ≡ suc k = omega arith in rw e (omega arith))
     (cases-lt j (suc k))
 
 -- In a rising list the first number at or above `from` is the least of those that are.

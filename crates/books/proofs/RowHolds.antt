@@ -9,7 +9,7 @@ use Rattle.std.proofs.shelf.Lists.{getD-take}
 use Rattle.books.specs.Periods.{isPeriod, periodsOf, AllPeriods, StrictlyRising}
 use Rattle.books.specs.Questions.{firstNo, periodQuestions, risingQuestions}
 use Rattle.books.specs.declared.list_book.PeriodRow.{PeriodRow}
-use Rattle.books.proofs.Asked.{periods-passed, rising-passed}
+use Rattle.books.proofs.QuestionsPassed.{periods-passed, rising-passed}
 
 -- A row that holds a list keeps what the questions on the list have shown.
 module _ (row : PeriodRow) (ps : List ℕ) (same : periodsOf row ≡ ps) (long : row .len ≡ length ps) where

@@ -23,13 +23,18 @@ pub record Question : Type 0 where
   pub field : ℕ
   pub yes : Bool
 
+-- The question of that number and field, with its answer.
 abbrev pub ask : ℕ → ℕ → Bool → Question
 ask n f y = record { number = n; field = f; yes = y }
 
--- The questions are put in order, and the first no is the refusal; an entry in numbers has no line.
+-- What a no to the question is: an entry in numbers has no line.
+abbrev pub refusedBy : Question → Refused
+refusedBy q = record { number = q .number; line = 0; field = q .field }
+
+-- The questions are put in order, and the first no is the refusal; none is due where all are yes.
 abbrev pub firstNo : List Question → Option Refused
 firstNo [] = None
-firstNo (q ∷ qs) = cond (q .yes) (firstNo qs) (Some (record { number = q .number; line = 0; field = q .field }))
+firstNo (q ∷ qs) = cond (q .yes) (firstNo qs) (Some (refusedBy q))
 
 -- Of a range: its low is a period, its high is a period, the low is not above the high, and there is
 -- room for a task.
@@ -37,16 +42,18 @@ abbrev pub rangeQuestions : ℕ → ℕ → ℕ → List Question
 rangeQuestions low high count =
     ask 16 3 (isPeriod low) ∷ ask 16 4 (isPeriod high) ∷ ask 17 4 (leb low high) ∷ ask 18 0 (ltb count 16) ∷ []
 
--- One question to each period of a list: it is one.
+-- One question to each number of a list, the first of which stands in the given field: it is a period.
 abbrev pub periodQuestions : ℕ → List ℕ → List Question
 periodQuestions field [] = []
 periodQuestions field (p ∷ ps) = ask 16 field (isPeriod p) ∷ periodQuestions (field + 1) ps
 
--- One question to each period that follows another: it is above the one before it.
+-- One question to each number that follows a given period, the first of which stands in the given
+-- field: it is above the one before it.
 abbrev pub aboveQuestions : ℕ → ℕ → List ℕ → List Question
 aboveQuestions field before [] = []
 aboveQuestions field before (p ∷ ps) = ask 17 field (ltb before p) ∷ aboveQuestions (field + 1) p ps
 
+-- The same question to each number of a list but the first, which stands in the given field.
 abbrev pub risingQuestions : ℕ → List ℕ → List Question
 risingQuestions field [] = []
 risingQuestions field (p ∷ ps) = aboveQuestions (field + 1) p ps

@@ -8,6 +8,7 @@ use Rattle.books.specs.Meaning.{Meaning}
 use Rattle.books.specs.Periods.{periodsOf}
 use Rattle.books.specs.declared.grid.Grid.{Grid}
 use Rattle.books.specs.declared.list_book.ListBook.{ListBook}
+use Rattle.books.specs.declared.range_book.PeriodRange.{PeriodRange}
 use Rattle.books.specs.declared.range_book.RangeBook.{RangeBook}
 use Rattle.books.specs.declared.side_by_side.SideBySide.{SideBySide}
 
@@ -15,12 +16,15 @@ use Rattle.books.specs.declared.side_by_side.SideBySide.{SideBySide}
 abbrev pub isWithin : ℕ → ℕ → ℕ → Bool
 isWithin low high period = leb low period && leb period high
 
--- A book of ranges allows each task the range that it was added with.
+-- The range that a book of ranges holds for a task.
+abbrev pub rangeAt : RangeBook → ℕ → PeriodRange
+rangeAt b task = getD (b .ranges) task (record { low = 0; high = 0 })
+
+-- A book of ranges allows each of its tasks the periods of the task's range.
 abbrev pub rangesOf : RangeBook → Meaning
 rangesOf b = record {
   count = b .used;
-  allowed = λ task period.
-      ltb task (b .used) && isWithin (getD (b .ranges) task (record { low = 0; high = 0 }) .low) (getD (b .ranges) task (record { low = 0; high = 0 }) .high) period;
+  allowed = λ task period. ltb task (b .used) && isWithin (rangeAt b task .low) (rangeAt b task .high) period;
 }
 
 -- A period is among those listed.
@@ -28,11 +32,15 @@ abbrev pub isAmong : List ℕ → ℕ → Bool
 isAmong [] period = false
 isAmong (listed ∷ rest) period = eqb listed period || isAmong rest period
 
--- A book of lists allows each task the periods that it was added with.
+-- The periods that a book of lists holds for a task.
+abbrev pub periodsAt : ListBook → ℕ → List ℕ
+periodsAt b task = periodsOf (getD (b .rows) task (record { periods = []; len = 0 }))
+
+-- A book of lists allows each of its tasks the periods written for it.
 abbrev pub listsOf : ListBook → Meaning
 listsOf b = record {
   count = b .used;
-  allowed = λ task period. ltb task (b .used) && isAmong (periodsOf (getD (b .rows) task (record { periods = []; len = 0 }))) period;
+  allowed = λ task period. ltb task (b .used) && isAmong (periodsAt b task) period;
 }
 
 -- A grid allows what the book below allows where it is a multiple of the step; step 0 counts as 1.

@@ -6,6 +6,7 @@ pub mod book;
 pub mod fault;
 pub mod grid;
 pub mod list_book;
+mod period;
 pub mod range_book;
 pub mod side_by_side;
 

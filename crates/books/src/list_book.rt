@@ -9,7 +9,7 @@ mod row;
 
 // The first `len` numbers are the periods of one task.
 #[derive(Clone, Copy)]
-pub struct PeriodRow {
+struct PeriodRow {
     periods: [u32; 8],
     len: usize,
 }

@@ -5,7 +5,7 @@ pub mod calls;
 
 // The periods from `low` to `high`.
 #[derive(Clone, Copy)]
-pub struct PeriodRange {
+struct PeriodRange {
     low: u32,
     high: u32,
 }

@@ -10,8 +10,10 @@ pub struct SideBySide<F, S> {
 }
 
 impl<F: Book, S: Book> SideBySide<F, S> {
+    // The two books, side by side.
     pub fn new(first: F, second: S) -> SideBySide<F, S>
-        ensures value { λ r. ⌜ besideOf (F·Book .means) (S·Book .means) r ≡ beside (F·Book .means first) (S·Book .means second) ⌝ }
+        ensures meaning { λ r. ⌜ besideOf (F·Book .means) (S·Book .means) r ≡ beside (F·Book .means first) (S·Book .means second) ⌝ }
+        ensures parts { λ r. ⌜ (r .first ≡ first) × (r .second ≡ second) ⌝ }
     {
         SideBySide { first, second }
     }

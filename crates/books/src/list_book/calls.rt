@@ -43,6 +43,7 @@ impl ListBook {
         Ok(())
     }
 
+    // The book with one task more, which has the periods of the row.
     fn with(self, row: PeriodRow) -> ListBook
         requires room { ⌜ self .used < 16 ⌝ }
         requires counted { ⌜ OneToEight row ⌝ }

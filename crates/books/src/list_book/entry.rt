@@ -3,16 +3,18 @@ ghost use Prim.Native.Nat.{_≤_};
 ghost use lib.ListN.{length};
 ghost use Rattle.books.specs.Questions.{firstNo, periodQuestions, risingQuestions, told};
 use crate::fault::EntryFault;
+use crate::period::is_period;
 
-// The periods of an entry stand in its fields from 5 on.
+// The periods of an entry stand in its fields from this one on.
 const FIRST_FIELD: u32 = 5;
 
-pub fn check_numbers(periods: &[u32]) -> Result<(), EntryFault>
+// Refuses the first number that is no period.
+pub(super) fn check_numbers(periods: &[u32]) -> Result<(), EntryFault>
     requires { ⌜ length (now periods) ≤ 8 ⌝ }
     ensures answer { λ r. ⌜ told r ≡ firstNo (periodQuestions 5 (now (periods .entry))) ⌝ }
 {
-    for k in 0..periods.len() {
-        if periods[k] < 1 || periods[k] > 200_000 {
+    for (k, period) in periods.iter().enumerate() {
+        if !is_period(*period) {
             return Err(EntryFault::NumberOutOfRange {
                 field: FIRST_FIELD + k as u32,
             });
@@ -21,7 +23,8 @@ pub fn check_numbers(periods: &[u32]) -> Result<(), EntryFault>
     Ok(())
 }
 
-pub fn check_rising(periods: &[u32]) -> Result<(), EntryFault>
+// Refuses the first period that is not above the one before it.
+pub(super) fn check_rising(periods: &[u32]) -> Result<(), EntryFault>
     requires { ⌜ length (now periods) ≤ 8 ⌝ }
     ensures answer { λ r. ⌜ told r ≡ firstNo (risingQuestions 5 (now (periods .entry))) ⌝ }
 {

@@ -7,7 +7,8 @@ ghost use Rattle.books.specs.Sets.{isAmong};
 use crate::list_book::PeriodRow;
 
 impl PeriodRow {
-    pub fn holding(periods: &[u32]) -> PeriodRow
+    // The row of a task that may have the periods listed.
+    pub(super) fn holding(periods: &[u32]) -> PeriodRow
         requires { ⌜ length (now periods) ≤ 8 ⌝ }
         ensures len { λ r. ⌜ r .len ≡ length (now (periods .entry)) ⌝ }
         ensures value { λ r. ⌜ periodsOf r ≡ now (periods .entry) ⌝ }
@@ -22,7 +23,8 @@ impl PeriodRow {
         }
     }
 
-    pub fn holds(&self, period: u32) -> bool
+    // Whether the period is one of the row's.
+    pub(super) fn holds(&self, period: u32) -> bool
         requires { ⌜ OneToEight (now self) ⌝ }
         ensures value { λ r. ⌜ r ≡ isAmong (periodsOf (now (self .entry))) period ⌝ }
     {
@@ -34,7 +36,8 @@ impl PeriodRow {
         false
     }
 
-    pub fn next_from(&self, from: u32) -> Option<u32>
+    // The row's least period at or above `from`: the first that is, since they rise.
+    pub(super) fn next_from(&self, from: u32) -> Option<u32>
         requires counted { ⌜ OneToEight (now self) ⌝ }
         requires rising { ⌜ StrictlyRising (now self) ⌝ }
         ensures least { λ r. ⌜ LeastFrom (isAmong (periodsOf (now (self .entry)))) from r ⌝ }

@@ -4,6 +4,7 @@ ghost use Rattle.books.specs.Questions.{rangeQuestions, firstNo, told};
 ghost use Rattle.books.specs.Sets.{Adds, Empty, rangesOf, isWithin};
 use crate::book::Book;
 use crate::fault::EntryFault;
+use crate::period::is_period;
 use crate::range_book::PeriodRange;
 use crate::range_book::RangeBook;
 
@@ -23,10 +24,10 @@ impl RangeBook {
         ensures answer { λ r. ⌜ told r ≡ firstNo (rangeQuestions low high (rangesOf (now (self .entry)) .count)) ⌝ }
         ensures after { λ r. ⌜ Cases r (λ _. Adds (rangesOf (now (self .entry))) (rangesOf (now (self .exit))) (isWithin low high)) (λ _. now (self .exit) ≡ now (self .entry)) ⌝ }
     {
-        if low < 1 || low > 200_000 {
+        if !is_period(low) {
             return Err(EntryFault::NumberOutOfRange { field: 3 });
         }
-        if high < 1 || high > 200_000 {
+        if !is_period(high) {
             return Err(EntryFault::NumberOutOfRange { field: 4 });
         }
         if low > high {

@@ -1,4 +1,3 @@
-use mathlib.Core.Path.{subst}
 use borrow.Author.Needs.{needs}
 use Rattle.std.proofs.shelf.Tests.{and-parts, eqb-true}
 use Rattle.books.proofs.Multiples.{no-multiple-below, no-multiple-passes}

@@ -1,5 +1,4 @@
 use Prim.Native.Nat.{ℕ, _<_}
-use mathlib.Core.Path.{_≡_}
 use lib.ListN.{getD}
 use Rattle.books.proofs.list_book.PeriodRow.next_from.Given as given
 

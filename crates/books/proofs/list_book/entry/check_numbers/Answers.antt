@@ -7,11 +7,11 @@ use Rattle.std.proofs.shelf.Lists.{at-drop-all}
 use Rattle.std.proofs.shelf.Tests.{cond-true, cond-false}
 use Rattle.books.specs.Periods.{isPeriod}
 use Rattle.books.specs.Questions.{firstNo, periodQuestions}
-use Rattle.books.proofs.Asked.{periods-from}
+use Rattle.books.proofs.NextQuestion.{periods-from}
 use Rattle.books.proofs.list_book.entry.check_numbers.Needs as need
 
-pub returns-then-periods-k-lt1 : need.returns-then-periods-k-lt1
-returns-then-periods-k-lt1 c =
+pub returns-then-not-is-period : need.returns-then-not-is-period
+returns-then-not-is-period c =
     let no′ : isPeriod (getD (c .args .periods .now) (c .loop-k .k) 0) ≡ false = search needs in
     record { answer = sym (periods-from (c .args .periods .now) (c .loop-k .k) (search needs) ∙ cond-false _ _ _ no′) ∙ c .loop-k .inv }
 

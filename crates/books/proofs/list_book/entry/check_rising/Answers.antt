@@ -1,11 +1,11 @@
 use Prim.Native.Nat.{_+_, _-_}
-use mathlib.Core.Path.{_≡_, sym, _∙_}
+use mathlib.Core.Path.{sym, _∙_}
 use borrow.Author.Needs.{needs}
 use lib.ListN.{getD}
 use Rattle.std.proofs.shelf.Lists.{at-drop-all}
 use Rattle.std.proofs.shelf.Tests.{cond-true, cond-false, lt-ltb, le-ltb}
 use Rattle.books.specs.Questions.{firstNo, aboveQuestions}
-use Rattle.books.proofs.Asked.{above-from, rising-from-second}
+use Rattle.books.proofs.NextQuestion.{above-from}
 use Rattle.books.proofs.list_book.entry.check_rising.Needs as need
 
 pub returns-then-periods-k : need.returns-then-periods-k

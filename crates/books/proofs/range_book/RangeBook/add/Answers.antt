@@ -1,6 +1,5 @@
 use Prim.Native.Nat.{_≤_}
 use borrow.Author.Needs.{needs}
-use native.Mathlib.Omega.{arith}
 use Rattle.books.specs.declared.range_book.PeriodRange.{PeriodRange}
 use Rattle.books.proofs.EachSet.{each-set}
 use Rattle.books.proofs.range_book.RangeBook.add.Needs as need
