@@ -2,10 +2,14 @@
 -- quotients of a number's divisors are, and what a turn of the search keeps. Of placing jobs into frames:
 -- sums, the order of service, the greedy table, runs of frames, what an unfinished job shows, how these
 -- make the theorem, finer frames, how few the gifts are, what the service of a frame keeps, and an example.
+-- Of the list of jobs: their order and positions. Of a choice of periods: the work that it needs. Of the
+-- rows: that there is one list of them, and how few they are.
 mod Divisors
 mod Lowering
 mod Searches
+mod FrameSizes
 mod Steps
+mod Writes
 mod Sums
 mod Order
 mod Greedy
@@ -15,4 +19,12 @@ mod Equivalence
 mod Finer
 mod FewGifts
 mod FrameLoop
+mod Weighed
+mod Underway
+mod TableSoFar
 mod GreedyExample
+mod ListedJobs
+mod LeastWork
+mod Membership
+mod OneTable
+mod FewRows

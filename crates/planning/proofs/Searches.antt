@@ -1,7 +1,7 @@
-use Prim.Native.Nat.{ℕ, zero, suc, _+_, _-_, _≤_, _<_}
+use Prim.Native.Nat.{ℕ, _-_, _≤_, _<_}
 use mathlib.Core.Bool.{Bool, true, false, cond}
 use mathlib.Core.List.{List, [], _∷_}
-use mathlib.Core.Logic.{_⊎_, inl, inr, ⊎-elim}
+use mathlib.Core.Logic.{⊎-elim}
 use mathlib.Core.Path.{_≡_, refl, sym, subst, ap, _∙_}
 use native.Mathlib.Omega.{arith}
 use lib.Dec.{eqb, leb, ltb}
@@ -21,17 +21,7 @@ use Rattle.orders.specs.Order.{Least}
 use Rattle.orders.specs.declared.candidate.Candidate.{Candidate}
 use Rattle.planning.specs.Candidates.{Searched, Stands}
 use Rattle.planning.specs.Hyperperiod.{LeastHyperperiod, NextServing, NoneServes, Serves, ServesTask}
-
--- what a list with one more element in front has
-has-cons-cases : {X : Type 0} (x : X) (xs : List X) (y : X) → Has (x ∷ xs) y → (x ≡ y) ⊎ Has xs y
-has-cons-cases x xs y (zero, h, at-k) = inl (at-k x)
-has-cons-cases x xs y (suc k, h, at-k) = inr (k, omega arith, at-k)
-
-has-head : {X : Type 0} (x : X) (xs : List X) → Has (x ∷ xs) x
-has-head x xs = has-getD (x ∷ xs) 0 x (omega arith)
-
-has-tail : {X : Type 0} (x : X) (xs : List X) (y : X) → Has xs y → Has (x ∷ xs) y
-has-tail x xs y (k, h, at-k) = (suc k, omega arith, at-k)
+use Rattle.planning.proofs.Membership.{has-cons-cases, has-head, has-tail}
 
 -- at a yes, what is promised of a yes
 pub when-yes : (answer : Bool) (P Q : Type 0) → answer ≡ true → When answer P Q → P

@@ -8,6 +8,7 @@ use Rattle.books.specs.Meaning.{Meaning}
 use Rattle.orders.specs.declared.candidate.Candidate.{Candidate}
 use Rattle.planning.specs.declared.refusal.Refusal.{Refusal}
 use Rattle.planning.specs.declared.refusal.Refusal.the-variants.{NothingServes}
+use Rattle.planning.specs.Refusals.{CeilingInRange, CountInRange, RangeDue, number, place}
 use Rattle.planning.specs.Hyperperiod.{LeastHyperperiod, NoneServes, Serves, ServesTask}
 
 -- A candidate of a task of the book: at most the highest number, and 0 or a number that serves the task.
@@ -25,3 +26,8 @@ pub record Searched (m : Meaning) (highest : ℕ) (cs : List Candidate) : Type 0
 abbrev pub Found : Meaning → ℕ → Result ℕ Refusal → Type 0
 Found m ceiling (Ok h) = LeastHyperperiod m ceiling h
 Found m ceiling (Err e) = (e ≡ NothingServes) × NoneServes m ceiling
+
+-- What is known when the first questions were put: the count of tasks, in range, or which refusal is due.
+abbrev pub Counted : Meaning → ℕ → Result ℕ Refusal → Type 0
+Counted m ceiling (Ok n) = (n ≡ m .count) × CeilingInRange ceiling × CountInRange m
+Counted m ceiling (Err e) = RangeDue m ceiling (number e) (place e)

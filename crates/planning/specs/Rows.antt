@@ -1,4 +1,4 @@
-use Prim.Native.Nat.{ℕ, _<_}
+use Prim.Native.Nat.{ℕ, _+_, _≤_, _<_}
 use mathlib.Core.Bool.{Bool, true, _&&_, _||_}
 use mathlib.Core.List.{List, map}
 use mathlib.Core.Path.{_≡_}
@@ -53,3 +53,7 @@ GreedyRows jobs fr rows = (G : Gifts) → IsGreedy (placed jobs) fr G → RowsOf
 -- A list of jobs and frames have one list of rows, and no other.
 abbrev pub Rows-are-one : Type 0
 Rows-are-one = (jobs : List Job) (fr : Frames) (rows others : List Row) → GreedyRows jobs fr rows → GreedyRows jobs fr others → rows ≡ others
+
+-- The rows are no more than the jobs and the frames.
+abbrev pub Rows-are-few : Type 0
+Rows-are-few = (jobs : List Job) (fr : Frames) (rows : List Row) → GreedyRows jobs fr rows → length rows ≤ length jobs + fr .count

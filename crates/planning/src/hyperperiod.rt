@@ -7,7 +7,7 @@ ghost use lib.ListN.{getD};
 ghost use Rattle.orders.specs.Held.{held};
 ghost use Rattle.orders.specs.Models.{candidate-le};
 ghost use Rattle.orders.specs.Order.{Sound};
-ghost use Rattle.planning.specs.Candidates.{Found, Searched};
+ghost use Rattle.planning.specs.Candidates.{Counted, Found, Searched};
 ghost use Rattle.planning.specs.Refusals.{CeilingInRange, CountInRange, Sought};
 use crate::multiples::next_serving;
 use crate::refusal::Refusal;
@@ -20,6 +20,14 @@ use orders::Heap;
 pub fn seek<B: Book>(book: &B, ceiling: u32) -> Result<u32, Refusal>
     ensures { λ r. ⌜ Sought (B·Book .means (now (book .entry))) ceiling r ⌝ }
 {
+    let count = count_tasks(book, ceiling)?;
+    least_serving(book, count, ceiling)
+}
+
+// The count of tasks, where the ceiling and the count are in range.
+pub(crate) fn count_tasks<B: Book>(book: &B, ceiling: u32) -> Result<u32, Refusal>
+    ensures { λ r. ⌜ Counted (B·Book .means (now (book .entry))) ceiling r ⌝ }
+{
     if ceiling < 1 || ceiling > 1_000_000 {
         return Err(Refusal::CeilingOutOfRange);
     }
@@ -27,6 +35,16 @@ pub fn seek<B: Book>(book: &B, ceiling: u32) -> Result<u32, Refusal>
     if count < 1 || count > 16 {
         return Err(Refusal::CountOutOfRange);
     }
+    Ok(count)
+}
+
+// The search, with a candidate for each task.
+pub(crate) fn least_serving<B: Book>(book: &B, count: u32, ceiling: u32) -> Result<u32, Refusal>
+    requires ceiling { ⌜ CeilingInRange ceiling ⌝ }
+    requires tasks { ⌜ CountInRange (B·Book .means (now book)) ⌝ }
+    requires count { ⌜ count ≡ B·Book .means (now book) .count ⌝ }
+    ensures { λ r. ⌜ Found (B·Book .means (now (book .entry))) ceiling r ⌝ }
+{
     let mut slots = unmoved();
     let mut candidates = Heap::new(&mut slots, count as usize);
     search(book, &mut candidates, ceiling)

@@ -3,15 +3,25 @@
 // specs/Hyperperiod.antt.
 
 mod chosen;
+mod frame;
 mod hyperperiod;
 mod job;
 pub mod laws;
 mod multiples;
+mod periods;
+pub mod plan;
 mod refusal;
+mod sizes;
+mod table;
+mod windows;
+pub mod workspace;
 
 pub use chosen::chosen_period;
 pub use hyperperiod::seek;
 pub use job::Figures;
 pub use job::Job;
 pub use job::Row;
+pub use plan::Plan;
+pub use plan::make::make_plan;
 pub use refusal::Refusal;
+pub use workspace::Workspace;

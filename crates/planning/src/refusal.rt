@@ -7,7 +7,10 @@ ghost use Rattle.planning.specs.Refusals.{number as numberOf, place as placeOf
 pub enum Refusal {
     CeilingOutOfRange,
     CountOutOfRange,
+    TaskWithoutFigures { task: u32 },
     NothingServes,
+    TooManyJobs,
+    EverySizeFails,
 }
 
 impl Refusal {
@@ -18,7 +21,10 @@ impl Refusal {
         match self {
             Refusal::CeilingOutOfRange => 4,
             Refusal::CountOutOfRange => 5,
+            Refusal::TaskWithoutFigures { .. } => 6,
             Refusal::NothingServes => 7,
+            Refusal::TooManyJobs => 8,
+            Refusal::EverySizeFails => 9,
         }
     }
 
@@ -27,7 +33,12 @@ impl Refusal {
         ensures { λ r. ⌜ r ≡ placeOf self ⌝ }
     {
         match self {
-            Refusal::CeilingOutOfRange | Refusal::CountOutOfRange | Refusal::NothingServes => 0,
+            Refusal::TaskWithoutFigures { task } => task,
+            Refusal::CeilingOutOfRange
+            | Refusal::CountOutOfRange
+            | Refusal::NothingServes
+            | Refusal::TooManyJobs
+            | Refusal::EverySizeFails => 0,
         }
     }
 }

@@ -1,0 +1,67 @@
+// Making a plan's memory, and reading a plan.
+
+ghost use Prim.Native.Nat.{_≤_};
+ghost use lib.Dec.{ltb};
+ghost use mathlib.Core.Bool.{cond};
+ghost use mathlib.Core.Path.{_≡_};
+ghost use Rattle.std.specs.Of.Vec.{vec-items};
+ghost use Rattle.std.specs.Vec.{made};
+ghost use Rattle.std.specs.declared.option.Option.the-variants.{Some, None};
+ghost use Rattle.planning.specs.Plans.{Nothing, periodIn};
+use crate::job::Row;
+use crate::plan::Plan;
+use std::alloc::AllocError;
+use std::alloc::Global;
+
+impl Plan {
+    // A plan of nothing, with the memory for the rows of any other.
+    pub fn none(heap: Global) -> Result<Plan, AllocError>
+        ensures { λ r. ⌜ made r Nothing ⌝ }
+    {
+        let rows = Vec::with_capacity(heap, 1280)?;
+        Ok(Plan {
+            hyperperiod: 0,
+            frame_size: 0,
+            tasks: 0,
+            periods: [0; 16],
+            jobs: 0,
+            rows,
+        })
+    }
+
+    pub fn hyperperiod(&self) -> u32
+        ensures { λ r. ⌜ r ≡ now (self .entry) .hyperperiod ⌝ }
+    {
+        self.hyperperiod
+    }
+
+    pub fn frame_size(&self) -> u32
+        ensures { λ r. ⌜ r ≡ now (self .entry) .«frame_size» ⌝ }
+    {
+        self.frame_size
+    }
+
+    // How many jobs there are in the hyperperiod.
+    pub fn jobs(&self) -> u32
+        ensures { λ r. ⌜ r ≡ now (self .entry) .jobs ⌝ }
+    {
+        self.jobs
+    }
+
+    // The chosen period of a task; none beyond the last task.
+    pub fn period(&self, task: u32) -> Option<u32>
+        ensures { λ r. ⌜ r ≡ cond (ltb task (now (self .entry) .tasks)) (Some (periodIn (now (self .entry)) task)) None ⌝ }
+    {
+        if task >= self.tasks {
+            return None;
+        }
+        Some(self.periods[task as usize])
+    }
+
+    // The rows of the table, frame by frame.
+    pub fn rows(&self) -> &[Row]
+        ensures { λ r. ⌜ now r ≡ vec-items (now (self .entry) .rows) ⌝ }
+    {
+        self.rows.as_slice()
+    }
+}
