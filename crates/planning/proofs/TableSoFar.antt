@@ -7,13 +7,13 @@ use native.Mathlib.Omega.{arith}
 use lib.Dec.{eqb, ltb}
 use lib.ListN.{length, getD, length-append}
 use Rattle.std.specs.Orderings.{When}
-use Rattle.std.specs.shelf.Lists.{All, Has}
+use Rattle.std.specs.shelf.Lists.{Has}
 use Rattle.std.proofs.shelf.Elements.{all-append, all-getD, all-map, all-weaker, has-append-left, has-append-right}
 use Rattle.std.proofs.shelf.Lists.{getD-append-left, getD-append-right, getD-map, map-append}
-use Rattle.std.proofs.shelf.Tests.{cases-eq, cases-lt, cond-false, cond-true, eq-eqb, ne-eqb, and-from, lt-ltb, or-left, or-right}
+use Rattle.std.proofs.shelf.Tests.{cases-lt, cond-false, cond-true, eq-eqb, ne-eqb, and-from, lt-ltb, or-left, or-right}
 use Rattle.planning.specs.declared.job.Job.{Job}
 use Rattle.planning.specs.declared.job.Row.{Row}
-use Rattle.planning.specs.FrameRows.{FrameServed, InService, Lacks, RowsAdded, Unfinished, fallen, rowAt}
+use Rattle.planning.specs.FrameRows.{FrameServed, Lacks, RowsAdded, Unfinished, fallen, rowAt}
 use Rattle.planning.specs.Placing.{Finishes, Frames, Gifts, IsGreedy, Jobs, given, isBefore}
 use Rattle.planning.specs.Rows.{IsGift, Place, Rising, RowsOf, isEarlier, rowOf}
 use Rattle.planning.specs.Serving.{Served}

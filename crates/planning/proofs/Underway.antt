@@ -1,5 +1,5 @@
 use Prim.Native.Nat.{ℕ, _+_, _-_, _*_, _≤_, _<_, min}
-use mathlib.Core.Bool.{Bool, true, false, not, _&&_, cond}
+use mathlib.Core.Bool.{Bool, true, not, _&&_, cond}
 use mathlib.Core.List.{List, [], _∷_, _++_, map}
 use mathlib.Core.Logic.{_⊎_, inl, inr, ⊎-elim}
 use mathlib.Core.Path.{_≡_, refl, sym, ap, subst, _∙_}
@@ -10,7 +10,7 @@ use Rattle.std.specs.shelf.Lists.{All, Has}
 use Rattle.std.specs.shelf.Sorted.{Shuffled}
 use Rattle.std.proofs.shelf.Elements.{all-getD, all-push, all-weaker, has-append-left, has-push}
 use Rattle.std.proofs.shelf.Lists.{append-assoc, append-nil, getD-append-left, getD-push, getD-set-other, getD-set-same, length-push, map-push}
-use Rattle.std.proofs.shelf.Tests.{and-from, and-parts, cases-bool, cases-eq, cases-lt, lt-ltb, both-ways}
+use Rattle.std.proofs.shelf.Tests.{and-from, and-parts, cases-eq, cases-lt, lt-ltb, both-ways}
 use Rattle.std.proofs.shelf.Ways.{tells}
 use Rattle.orders.specs.Models.{waiting-le}
 use Rattle.orders.specs.Order.{Least}

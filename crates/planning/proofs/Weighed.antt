@@ -1,18 +1,18 @@
-use Prim.Native.Nat.{ℕ, zero, suc, _+_, _-_, _≤_, _<_}
+use Prim.Native.Nat.{ℕ, zero, suc, _+_, _≤_, _<_}
 use mathlib.Core.Bool.{Bool, true, false, not, _&&_, cond}
-use mathlib.Core.List.{List, [], _∷_, _++_}
+use mathlib.Core.List.{List, [], _∷_}
 use mathlib.Core.Logic.{⊎-elim}
 use mathlib.Core.Path.{_≡_, refl, sym, ap, subst, _∙_}
 use native.Mathlib.Numerals.{add-one}
 use native.Mathlib.Omega.{arith}
-use lib.Dec.{eqb, leb, ltb}
-use lib.ListN.{length, getD, set, take}
+use lib.Dec.{eqb}
+use lib.ListN.{length, set, take}
 use Rattle.std.specs.shelf.Lists.{All, sumBy}
 use Rattle.std.specs.shelf.Sorted.{Shuffled}
 use Rattle.std.proofs.shelf.Lists.{take-more-set}
 use Rattle.std.proofs.shelf.Sorted.{sumBy-shuffled}
 use Rattle.std.proofs.shelf.Sums.{sumBy-cons, sumBy-push}
-use Rattle.std.proofs.shelf.Tests.{and-parts, cases-bool, cases-eq, cases-lt, cond-false, cond-true, eqb-true, eq-eqb, both-ways}
+use Rattle.std.proofs.shelf.Tests.{and-parts, cases-bool, cases-eq, cases-lt, cond-false, cond-true, eqb-true}
 use Rattle.std.proofs.shelf.Ways.{tells}
 use Rattle.orders.specs.Models.{waiting-le}
 use Rattle.orders.specs.Order.{Least}

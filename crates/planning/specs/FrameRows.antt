@@ -7,7 +7,6 @@ use Rattle.std.specs.shelf.Lists.{All, Has}
 use Rattle.planning.specs.declared.job.Job.{Job}
 use Rattle.planning.specs.declared.job.Row.{Row}
 use Rattle.planning.specs.Placing.{Jobs, Frames, Gifts, isBefore, given}
-use Rattle.planning.specs.Rows.{RowsOf}
 use Rattle.planning.specs.Serving.{Served}
 use Rattle.planning.specs.Windows.{jobAt, placed}
 

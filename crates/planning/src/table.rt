@@ -1,7 +1,7 @@
 // The table of a frame size: every frame is served in turn, and the table is complete if no job lacks
 // anything in the end.
 
-ghost use Prim.Native.Nat.{ℕ, _+_, _-_, _*_, _≤_, _<_};
+ghost use Prim.Native.Nat.{ℕ, _*_, _≤_, _<_};
 ghost use mathlib.Core.Path.{_≡_};
 ghost use lib.ListN.{length, getD};
 ghost use Rattle.std.specs.Of.Vec.{vec-cap, vec-items, vec-len};

@@ -1,7 +1,7 @@
 use Prim.Native.Nat.{ℕ, _≤_}
 use mathlib.Core.Bool.{cond}
 use mathlib.Core.Path.{_≡_}
-use lib.ListN.{length, take}
+use lib.ListN.{take}
 use Rattle.std.specs.shelf.Lists.{sumBy}
 use Rattle.orders.specs.declared.waiting.Waiting.{Waiting}
 use Rattle.planning.specs.Placing.{Sum}

@@ -1,18 +1,16 @@
-use Prim.Native.Nat.{ℕ, _+_, _-_, _≤_, _<_}
+use Prim.Native.Nat.{ℕ, _+_, _≤_, _<_}
 use mathlib.Core.Bool.{cond, true}
-use mathlib.Core.List.{_∷_}
 use mathlib.Core.Logic.{inl, inr}
-use mathlib.Core.Path.{_≡_, refl, sym, ap, _∙_}
+use mathlib.Core.Path.{_≡_, refl, _∙_}
 use native.Mathlib.Omega.{arith}
 use lib.Dec.{ltb}
 use lib.ListN.{length, getD, take}
-use Rattle.std.specs.Of.Vec.{vec-cap, vec-items, vec-len}
-use Rattle.std.specs.shelf.Sorted.{Shuffled}
+use Rattle.std.specs.Of.Vec.{vec-items}
 use Rattle.std.proofs.shelf.Sorted.{sumBy-shuffled}
 use Rattle.std.proofs.shelf.Tests.{cond-true, lt-ltb}
 use Rattle.std.proofs.shelf.Ways.{tells}
 use Rattle.orders.specs.Held.{held}
-use Rattle.planning.specs.Waits.{Holds, waitingOf, waitsAt}
+use Rattle.planning.specs.Waits.{waitingOf}
 use Rattle.planning.specs.Windows.{jobAt}
 use Rattle.planning.proofs.Underway.{fewer-lack, service-begins, service-ends, service-goes-on, still-lacks, taken-position}
 use Rattle.planning.proofs.frame.serve_frame.Needs as need

@@ -1,16 +1,13 @@
 use Prim.Native.Nat.{_+_, _*_, _≤_}
-use mathlib.Core.Path.{_≡_, refl, sym, subst}
+use mathlib.Core.Path.{_≡_, sym, subst}
 use native.Mathlib.Nat.{mul-le-mul-right}
 use native.Mathlib.Omega.{arith}
 use lib.ListN.{length}
 use Rattle.std.specs.Of.Vec.{vec-items}
 use Rattle.planning.specs.FrameRows.{Lacks}
-use Rattle.planning.specs.Placing.{Gifts, IsGreedy}
 use Rattle.planning.specs.Rows.{RowsOf}
-use Rattle.planning.specs.Windows.{placed}
 use Rattle.planning.proofs.TableSoFar.{finishes-or-not, lacking-at-most, lacks-less, rows-of-none, rows-of-one-more}
 use Rattle.planning.proofs.table.write_table.Needs as need
-use Rattle.planning.proofs.table.write_table.Given as given
 
 pub loop-frame-holds : need.loop-frame-holds
 loop-frame-holds c = (
