@@ -1,15 +1,19 @@
 use Prim.Native.Nat.{ℕ, _/_, _≤_, _<_}
+use mathlib.Core.Bool.{cond}
 use mathlib.Core.List.{List, []}
 use mathlib.Core.Logic.{_⊎_}
 use mathlib.Core.Path.{_≡_}
-use lib.ListN.{getD}
+use lib.Dec.{ltb}
+use lib.ListN.{getD, length}
 use Rattle.std.specs.Of.Vec.{vec-items}
 use Rattle.std.specs.declared.option.Option.{Option}
+use Rattle.std.specs.declared.option.Option.the-variants.{Some, None}
 use Rattle.std.specs.declared.result.Result.{Result}
 use Rattle.std.specs.declared.result.Result.the-variants.{Ok, Err}
 use Rattle.books.specs.Meaning.{Meaning}
 use Rattle.planning.specs.declared.job.Figures.{Figures}
 use Rattle.planning.specs.declared.job.Job.{Job}
+use Rattle.planning.specs.declared.job.Row.{Row}
 use Rattle.planning.specs.declared.plan.Plan.{Plan}
 use Rattle.planning.specs.declared.refusal.Refusal.{Refusal}
 use Rattle.planning.specs.Charges.{figuresAt, Charged, LowestUncharged}
@@ -73,10 +77,15 @@ Sought m figures ceiling (Err refusal) = PlanDue m figures ceiling (number refus
 abbrev pub periodIn : Plan → ℕ → ℕ
 periodIn plan task = getD (plan .periods) task 0
 
+-- The row at a place of a list of rows; none beyond the last.
+abbrev pub rowIn : List Row → ℕ → Option Row
+rowIn rows index = cond (ltb index (length rows)) (Some (getD rows index (record { frame = 0; task = 0; job = 0; length = 0 }))) None
+
 -- A plan of nothing: no tasks, no jobs and no rows.
 pub record Nothing (plan : Plan) : Type 0 where
   pub hyperperiod : plan .hyperperiod ≡ 0
   pub size : plan .«frame_size» ≡ 0
+  pub frames : plan .frames ≡ 0
   pub tasks : plan .tasks ≡ 0
   pub jobs : plan .jobs ≡ 0
   pub rows : vec-items (plan .rows) ≡ []
@@ -91,6 +100,7 @@ pub record Planned (m : Meaning) (figures : List (Option Figures)) (ceiling : �
   pub jobs : plan .jobs ≡ jobsIn (plan .hyperperiod) (periodIn plan) (m .count)
   pub few : plan .jobs ≤ 1024
   pub size : LargestSize (placed (bookJobs m figures (plan .hyperperiod) (periodIn plan))) (plan .hyperperiod) (plan .«frame_size»)
+  pub frames : plan .frames ≡ plan .hyperperiod / plan .«frame_size»
   pub rows : GreedyRows (bookJobs m figures (plan .hyperperiod) (periodIn plan)) (framesOf (plan .hyperperiod) (plan .«frame_size»)) (vec-items (plan .rows))
 
 -- What the planning call answers, and the plan afterwards: the plan that the rules define where no refusal

@@ -19,5 +19,6 @@ pub struct Workspace {
     ghost jobs_room: { 1024 ≤ vec-cap jobs },
     ghost lacks_room: { vec-len lacks ≡ 1024 },
     ghost slots_room: { vec-len slots ≡ 1024 },
+    ghost rows_short: { vec-len rows ≤ 1280 },
     ghost rows_room: { 1280 ≤ vec-cap rows },
 }

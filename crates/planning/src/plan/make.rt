@@ -46,6 +46,7 @@ pub fn make_plan<B: Book>(
     };
     plan.hyperperiod = hyperperiod;
     plan.frame_size = frame_size;
+    plan.frames = hyperperiod / frame_size;
     plan.tasks = tasks;
     plan.periods = periods;
     plan.jobs = jobs;

@@ -2,12 +2,13 @@
 
 ghost use Prim.Native.Nat.{_≤_};
 ghost use lib.Dec.{ltb};
+ghost use lib.ListN.{length};
 ghost use mathlib.Core.Bool.{cond};
 ghost use mathlib.Core.Path.{_≡_};
 ghost use Rattle.std.specs.Of.Vec.{vec-items};
 ghost use Rattle.std.specs.Vec.{made};
 ghost use Rattle.std.specs.declared.option.Option.the-variants.{Some, None};
-ghost use Rattle.planning.specs.Plans.{Nothing, periodIn};
+ghost use Rattle.planning.specs.Plans.{Nothing, periodIn, rowIn};
 use crate::job::Row;
 use crate::plan::Plan;
 use std::alloc::AllocError;
@@ -22,6 +23,7 @@ impl Plan {
         Ok(Plan {
             hyperperiod: 0,
             frame_size: 0,
+            frames: 0,
             tasks: 0,
             periods: [0; 16],
             jobs: 0,
@@ -41,6 +43,13 @@ impl Plan {
         self.frame_size
     }
 
+    // How many frames of that size the hyperperiod has.
+    pub fn frames(&self) -> u32
+        ensures { λ r. ⌜ r ≡ now (self .entry) .frames ⌝ }
+    {
+        self.frames
+    }
+
     // How many jobs there are in the hyperperiod.
     pub fn jobs(&self) -> u32
         ensures { λ r. ⌜ r ≡ now (self .entry) .jobs ⌝ }
@@ -56,6 +65,23 @@ impl Plan {
             return None;
         }
         Some(self.periods[task as usize])
+    }
+
+    // How many rows the table has.
+    pub fn row_count(&self) -> u32
+        ensures { λ r. ⌜ r ≡ length (vec-items (now (self .entry) .rows)) ⌝ }
+    {
+        self.rows.len() as u32
+    }
+
+    // A row of the table; none beyond the last row.
+    pub fn row(&self, index: usize) -> Option<Row>
+        ensures { λ r. ⌜ r ≡ rowIn (vec-items (now (self .entry) .rows)) index ⌝ }
+    {
+        if index >= self.rows.len() {
+            return None;
+        }
+        Some(self.rows[index])
     }
 
     // The rows of the table, frame by frame.

@@ -84,5 +84,6 @@ returns g c =
       jobs = jobs;
       few = c .if-jobs-gt1024 .left;
       size = found .0;
+      frames = refl;
       rows = subst (λ rows. SizeFound (bookJobs m figures h period) h rows (Some (c .in-Some .frame-size))) (sym swapped) found .1;
     }
