@@ -7,15 +7,15 @@
 mod Divisors
 mod Lowering
 mod Searches
-mod FrameSizes
+pub mod FrameSizes
 mod Steps
 mod Writes
-mod Sums
+pub mod Sums
 mod Order
-mod Greedy
+pub mod Greedy
 mod Runs
 mod Unfinished
-mod Equivalence
+pub mod Equivalence
 mod Finer
 mod FewGifts
 mod FrameLoop
@@ -23,8 +23,8 @@ mod Weighed
 mod Underway
 mod TableSoFar
 mod GreedyExample
-mod ListedJobs
+pub mod ListedJobs
 mod LeastWork
-mod Membership
-mod OneTable
+pub mod Membership
+pub mod OneTable
 mod FewRows

@@ -19,13 +19,13 @@ use Rattle.planning.proofs.Sums.{sum-grows}
 
 -- Position i has a job of one of the first n tasks: it comes after the jobs of all earlier tasks and the
 -- earlier ones of its own.
-record JobStands (hyperperiod : ℕ) (period : ℕ → ℕ) (figures : ℕ → Figures) (n i : ℕ) : Type 0 where
-  task : ℕ
-  job : ℕ
-  low : task < n
-  few : job < hyperperiod / period task
-  place : Sum task (λ t. hyperperiod / period t) + job ≡ i
-  is : jobAt (jobsOf hyperperiod period figures n) i ≡ windowOf task (period task) (figures task) job
+pub record JobStands (hyperperiod : ℕ) (period : ℕ → ℕ) (figures : ℕ → Figures) (n i : ℕ) : Type 0 where
+  pub task : ℕ
+  pub job : ℕ
+  pub low : task < n
+  pub few : job < hyperperiod / period task
+  pub place : Sum task (λ t. hyperperiod / period t) + job ≡ i
+  pub is : jobAt (jobsOf hyperperiod period figures n) i ≡ windowOf task (period task) (figures task) job
 
 module _ (hyperperiod : ℕ) (period : ℕ → ℕ) (figures : ℕ → Figures) where
   pub length-jobsOf : (n : ℕ) → length (jobsOf hyperperiod period figures n) ≡ Sum n (λ t. hyperperiod / period t)
@@ -38,7 +38,7 @@ module _ (hyperperiod : ℕ) (period : ℕ → ℕ) (figures : ℕ → Figures) 
         length-jobsOf n,
       )
 
-  job-stands : (n i : ℕ) → i < length (jobsOf hyperperiod period figures n) → JobStands hyperperiod period figures n i
+  pub job-stands : (n i : ℕ) → i < length (jobsOf hyperperiod period figures n) → JobStands hyperperiod period figures n i
   job-stands zero i inside = absurd (omega arith)
   job-stands (suc n) i inside =
       let before : List Job = jobsOf hyperperiod period figures n in

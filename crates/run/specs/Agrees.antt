@@ -11,6 +11,7 @@ use Rattle.std.specs.declared.result.Result.{Result}
 use Rattle.std.specs.declared.result.Result.the-variants.{Ok, Err}
 use Rattle.books.specs.Meaning.{Meaning}
 use Rattle.planning.specs.declared.job.Row.{Row}
+use Rattle.planning.specs.declared.plan.Plan.{Plan}
 use Rattle.planning.specs.Plans.{Planned as PlanMade, rowIn}
 use Rattle.run.specs.declared.call.Answer.{Answer}
 use Rattle.run.specs.declared.call.Answer.the-variants.{Charged, Planned, Rewound, Came, PeriodIs, RowIs, Refused}
@@ -78,21 +79,20 @@ pub record Ends {B : Type 0} (p q : Planner B) (ending : Event) : Type 0 where
   pub on : min (p .frame + 1) 4294967295 < p .plan .frames → (q .frame ≡ min (p .frame + 1) 4294967295) × (q .row ≡ p .row) × (q .repetition ≡ p .repetition)
   pub over : p .plan .frames ≤ min (p .frame + 1) 4294967295 → (q .frame ≡ 0) × (q .row ≡ 0) × (q .repetition ≡ p .repetition + 1)
 
--- The planner's plan is the one that the account keeps, if it keeps one, and the planner is where the events
--- have come to.
-abbrev pub StandsAs : {B : Type 0} → Meaning → Planner B → Option Standing → List Event → Type 0
-StandsAs m p None events = p .stands ≡ false
-StandsAs m p (Some k) events =
-    (p .stands ≡ true)
-    × (k .hyperperiod ≡ p .plan .hyperperiod)
-    × (k .size ≡ p .plan .«frame_size»)
-    × ((ceiling : ℕ) × PlanMade m (k .figures) ceiling (p .plan))
-    × AtPlace (vec-items (p .plan .rows)) (p .plan .frames) (p .repetition) (p .frame) (p .row) events
+-- The plan is the one that the account keeps, if it keeps one, and the run is where the events have come to.
+abbrev pub StandsAs : Meaning → Bool → Plan → ℕ → ℕ → ℕ → Option Standing → List Event → Type 0
+StandsAs m stands plan repetition frame row None events = stands ≡ false
+StandsAs m stands plan repetition frame row (Some k) events =
+    (stands ≡ true)
+    × (k .hyperperiod ≡ plan .hyperperiod)
+    × (k .size ≡ plan .«frame_size»)
+    × ((ceiling : ℕ) × PlanMade m (k .figures) ceiling plan)
+    × AtPlace (vec-items (plan .rows)) (plan .frames) repetition frame row events
 
 -- The planner agrees with the account.
 pub record Agrees {B : Type 0} (meaning : B → Meaning) (p : Planner B) (a : Account) : Type 0 where
   pub figures : p .figures ≡ a .figures
-  pub standing : StandsAs (meaning (p .book)) p (a .plan) (a .events)
+  pub standing : StandsAs (meaning (p .book)) (p .stands) (p .plan) (p .repetition) (p .frame) (p .row) (a .plan) (a .events)
 
 -- What every call promises, of every account that agrees with the planner before it: the answer is right, what is
 -- kept holds of the account after it, the planner then agrees with that account, and its book is the same.

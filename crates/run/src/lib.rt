@@ -3,6 +3,7 @@
 // of the calls and answers before it. What is promised starts in specs/Account.antt.
 
 pub mod call;
+pub mod drive;
 pub mod event;
 pub mod planner;
 pub mod refusal;
@@ -11,4 +12,5 @@ pub use call::Answer;
 pub use call::Call;
 pub use event::Event;
 pub use planner::Planner;
+pub use planner::calls::Granted;
 pub use refusal::Refusal;

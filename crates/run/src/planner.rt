@@ -1,6 +1,7 @@
 // The planner: a book, the figures noted for its tasks, the plan that stands, and where its run is.
 
 pub mod calls;
+pub mod carry;
 pub mod reads;
 
 use planning::Figures;
