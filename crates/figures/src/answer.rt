@@ -9,8 +9,8 @@ use planning::Workspace;
 use planning::make_plan;
 use std::io;
 
-// Plans and prints the plan's line or the refusal; answers whether there is a plan.
-pub fn answer<B: Book>(
+// Plans and prints the plan's line, or the refusal; answers whether there is a plan.
+pub fn line<B: Book>(
     rt: &LibcRuntime,
     book: &B,
     figures: &[Option<Figures>],
@@ -30,14 +30,20 @@ pub fn answer<B: Book>(
     }
 }
 
-// A line for the period of each task and for each row of the table.
-pub fn table(rt: &LibcRuntime, plan: &Plan) -> io::Result<()> {
-    for task in 0..16 {
-        if let Some(period) = plan.period(task) {
-            println!(rt, "period,{task},{period}")?;
-        }
+// Plans and prints the plan with its periods and its table, or the refusal.
+pub fn whole<B: Book>(
+    rt: &LibcRuntime,
+    book: &B,
+    figures: &[Option<Figures>],
+    ceiling: u32,
+    space: &mut Workspace,
+    plan: &mut Plan,
+) -> io::Result<()> {
+    if line(rt, book, figures, ceiling, space, plan)? {
+        periods(rt, plan, book.count())?;
+        slices(rt, plan.rows())?;
     }
-    slices(rt, plan.rows())
+    Ok(())
 }
 
 fn summary(rt: &LibcRuntime, plan: &Plan) -> io::Result<()> {
@@ -46,6 +52,15 @@ fn summary(rt: &LibcRuntime, plan: &Plan) -> io::Result<()> {
     let jobs = plan.jobs();
     let rows = plan.rows().len();
     println!(rt, "plan,{hyperperiod},{size},{jobs},{rows}")
+}
+
+fn periods(rt: &LibcRuntime, plan: &Plan, tasks: u32) -> io::Result<()> {
+    for task in 0..tasks {
+        if let Some(period) = plan.period(task) {
+            println!(rt, "period,{task},{period}")?;
+        }
+    }
+    Ok(())
 }
 
 fn slices(rt: &LibcRuntime, rows: &[Row]) -> io::Result<()> {

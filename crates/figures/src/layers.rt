@@ -20,12 +20,13 @@ type RangeTask = (u32, u32, u32, u32);
 // A task by its periods, cost and deadline.
 type ListTask = (&'static [u32], u32, u32);
 
-// 24 serves them, and no number up to 23.
+// 24 serves both, and no number up to 23.
 const TWO: [RangeTask; 2] = [(10, 12, 1, 12), (7, 9, 1, 9)];
 
 const BESIDE: [RangeTask; 1] = [(10, 12, 1, 12)];
 
 const LISTED: [ListTask; 1] = [(&[4, 8, 16], 1, 16)];
+
 // No multiple of 5 lies in the range.
 const OFF: [RangeTask; 1] = [(7, 9, 1, 9)];
 
@@ -35,7 +36,6 @@ const EXAMPLE_LISTED: [ListTask; 1] = [(&[6, 9], 2, 5)];
 
 pub fn try_all(rt: &LibcRuntime, space: &mut Workspace, plan: &mut Plan) -> io::Result<()> {
     two_ranges(rt, space, plan)?;
-    without_figures(rt, space, plan)?;
     list_beside_range(rt, space, plan)?;
     off_the_grid(rt, space, plan)?;
     example(rt, space, plan)
@@ -46,21 +46,12 @@ fn two_ranges(rt: &LibcRuntime, space: &mut Workspace, plan: &mut Plan) -> io::R
     print!(rt, "Two ranges:")?;
     let book = ranges(rt, &TWO, &mut figures)?;
     println!(rt, "")?;
-    if answer::answer(rt, &book, &figures, 1_000_000, space, plan)? {
-        answer::table(rt, plan)?;
-    }
-    println!(rt, "Under a ceiling of 23:")?;
-    answer::answer(rt, &book, &figures, 23, space, plan)?;
-    Ok(())
-}
-
-fn without_figures(rt: &LibcRuntime, space: &mut Workspace, plan: &mut Plan) -> io::Result<()> {
-    let mut figures = Vec::new(rt.alloc());
-    print!(rt, "Without figures for task 1:")?;
-    let book = ranges(rt, &TWO, &mut figures)?;
-    println!(rt, "")?;
+    answer::whole(rt, &book, &figures, 1_000_000, space, plan)?;
+    print!(rt, "Under a ceiling of 23: ")?;
+    answer::line(rt, &book, &figures, 23, space, plan)?;
+    print!(rt, "Without figures for task 1: ")?;
     figures.pop();
-    answer::answer(rt, &book, &figures, 1_000_000, space, plan)?;
+    answer::line(rt, &book, &figures, 1_000_000, space, plan)?;
     Ok(())
 }
 
@@ -71,10 +62,7 @@ fn list_beside_range(rt: &LibcRuntime, space: &mut Workspace, plan: &mut Plan) -
     let beside = ranges(rt, &BESIDE, &mut figures)?;
     println!(rt, "")?;
     let book = SideBySide::new(listed, beside);
-    if answer::answer(rt, &book, &figures, 1_000_000, space, plan)? {
-        answer::table(rt, plan)?;
-    }
-    Ok(())
+    answer::whole(rt, &book, &figures, 1_000_000, space, plan)
 }
 
 fn off_the_grid(rt: &LibcRuntime, space: &mut Workspace, plan: &mut Plan) -> io::Result<()> {
@@ -83,8 +71,7 @@ fn off_the_grid(rt: &LibcRuntime, space: &mut Workspace, plan: &mut Plan) -> io:
     let off = ranges(rt, &OFF, &mut figures)?;
     println!(rt, "")?;
     let book = Grid::new(off, 5);
-    answer::answer(rt, &book, &figures, 1_000_000, space, plan)?;
-    Ok(())
+    answer::whole(rt, &book, &figures, 1_000_000, space, plan)
 }
 
 fn example(rt: &LibcRuntime, space: &mut Workspace, plan: &mut Plan) -> io::Result<()> {
@@ -94,12 +81,10 @@ fn example(rt: &LibcRuntime, space: &mut Workspace, plan: &mut Plan) -> io::Resu
     let second = lists(rt, &EXAMPLE_LISTED, &mut figures)?;
     println!(rt, "")?;
     let book = Grid::new(SideBySide::new(first, second), 1);
-    if answer::answer(rt, &book, &figures, 1_000_000, space, plan)? {
-        answer::table(rt, plan)?;
-    }
-    Ok(())
+    answer::whole(rt, &book, &figures, 1_000_000, space, plan)
 }
 
+// A book of the tasks, which are printed in one line, and whose figures are added.
 fn ranges(
     rt: &LibcRuntime,
     tasks: &[RangeTask],
@@ -115,6 +100,7 @@ fn ranges(
     Ok(book)
 }
 
+// A book of the tasks, which are printed in one line, and whose figures are added.
 fn lists(
     rt: &LibcRuntime,
     tasks: &[ListTask],

@@ -17,8 +17,10 @@ const SETS: [&[Task]; 9] = [
     &[(2, 1, 2), (3, 2, 3)],
     &[(4, 3, 3)],
     &[(4, 3, 2)],
+    // 257 is a prime: one frame is longer than the window, and 257 frames are too many.
     &[(257, 1, 256)],
     &[(256, 1, 255)],
+    // 1,024 jobs may be planned, and 1,025 may not.
     &[(1, 1, 1), (1023, 1, 1023)],
     &[(1, 1, 1), (1024, 1, 1024)],
 ];
@@ -39,11 +41,11 @@ fn try_set(
     let mut figures = Vec::new(rt.alloc());
     let book = enter(rt, tasks, &mut figures)?;
     print!(rt, ": ")?;
-    answer::answer(rt, &book, &figures, 1_000_000, space, plan)?;
+    answer::line(rt, &book, &figures, 1_000_000, space, plan)?;
     Ok(())
 }
 
-// A book of the tasks, which are printed in one line.
+// A book of the tasks, which are printed in one line, and whose figures are added.
 fn enter(
     rt: &LibcRuntime,
     tasks: &[Task],
