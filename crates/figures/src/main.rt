@@ -9,7 +9,11 @@ use planning::Workspace;
 use std::error::AnyError;
 
 fn main(rt: LibcRuntime) -> Result<(), AnyError> {
-    rt.report(run(&rt))
+    let done = run(&rt);
+    if let Err(error) = &done {
+        let _ = eprintln!(rt, "figures: {error}");
+    }
+    done
 }
 
 fn run(rt: &LibcRuntime) -> Result<(), AnyError> {

@@ -9,7 +9,11 @@ mod report;
 use std::error::AnyError;
 
 fn main(rt: LibcRuntime) -> Result<(), AnyError> {
-    rt.report(run(&rt))
+    let done = run(&rt);
+    if let Err(error) = &done {
+        let _ = eprintln!(rt, "menkozar: {error}");
+    }
+    done
 }
 
 fn run(rt: &LibcRuntime) -> Result<(), AnyError> {
