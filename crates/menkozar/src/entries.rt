@@ -1,8 +1,10 @@
-// Entering tasks into books, with a line for each entry and for each refusal.
+// Entering tasks into books and their figures beside them, with a line for each entry and for each
+// refusal.
 
 use books::EntryFault;
 use books::ListBook;
 use books::RangeBook;
+use planning::Figures;
 use std::io;
 
 // A task by name, that may have every period from `low` to `high`.
@@ -11,56 +13,75 @@ pub struct RangeTask {
     pub name: &'static str,
     pub low: u32,
     pub high: u32,
+    pub figures: Figures,
 }
 
 // A task by name, that may have the periods listed.
 #[derive(Clone, Copy)]
 pub struct ListTask {
     pub name: &'static str,
+    pub figures: Figures,
     pub periods: &'static [u32],
 }
 
-// A book of the tasks that are not refused.
-pub fn ranges(rt: &LibcRuntime, tasks: &[RangeTask]) -> io::Result<RangeBook> {
+// A book of the tasks that are not refused, whose figures are added.
+pub fn ranges(
+    rt: &LibcRuntime,
+    tasks: &[RangeTask],
+    figures: &mut Vec<Option<Figures>>,
+) -> io::Result<RangeBook> {
     let mut book = RangeBook::new();
     for task in tasks {
-        let name = task.name;
-        let low = task.low;
-        let high = task.high;
-        println!(rt, "range,{name},{low},{high}")?;
-        refused(rt, book.add(low, high))?;
+        range_line(rt, task)?;
+        match book.add(task.low, task.high) {
+            Ok(()) => figures.push(Some(task.figures))?,
+            Err(fault) => refused(rt, fault)?,
+        }
     }
     Ok(book)
 }
 
-// A book of the tasks that are not refused.
-pub fn lists(rt: &LibcRuntime, tasks: &[ListTask]) -> io::Result<ListBook> {
+// A book of the tasks that are not refused, whose figures are added.
+pub fn lists(
+    rt: &LibcRuntime,
+    tasks: &[ListTask],
+    figures: &mut Vec<Option<Figures>>,
+) -> io::Result<ListBook> {
     let mut book = ListBook::new();
     for task in tasks {
-        let name = task.name;
-        let periods = task.periods;
-        print!(rt, "list,{name}")?;
-        list_line(rt, periods)?;
-        refused(rt, book.add(periods))?;
+        list_line(rt, task)?;
+        match book.add(task.periods) {
+            Ok(()) => figures.push(Some(task.figures))?,
+            Err(fault) => refused(rt, fault)?,
+        }
     }
     Ok(book)
 }
 
-fn list_line(rt: &LibcRuntime, periods: &[u32]) -> io::Result<()> {
-    for period in periods {
+// The refusal of an entry.
+pub fn refused(rt: &LibcRuntime, fault: EntryFault) -> io::Result<()> {
+    let number = fault.number();
+    let line = fault.line();
+    let field = fault.field();
+    println!(rt, "refused,{number},{line},{field}")
+}
+
+fn range_line(rt: &LibcRuntime, task: &RangeTask) -> io::Result<()> {
+    let name = task.name;
+    let low = task.low;
+    let high = task.high;
+    let cost = task.figures.cost;
+    let deadline = task.figures.deadline;
+    println!(rt, "range,{name},{low},{high},{cost},{deadline}")
+}
+
+fn list_line(rt: &LibcRuntime, task: &ListTask) -> io::Result<()> {
+    let name = task.name;
+    let cost = task.figures.cost;
+    let deadline = task.figures.deadline;
+    print!(rt, "list,{name},{cost},{deadline}")?;
+    for period in task.periods {
         print!(rt, ",{period}")?;
     }
     println!(rt, "")
-}
-
-fn refused(rt: &LibcRuntime, added: Result<(), EntryFault>) -> io::Result<()> {
-    match added {
-        Ok(()) => Ok(()),
-        Err(fault) => {
-            let number = fault.number();
-            let line = fault.line();
-            let field = fault.field();
-            println!(rt, "refused,{number},{line},{field}")
-        }
-    }
 }

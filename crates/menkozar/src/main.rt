@@ -1,15 +1,23 @@
-// The frame planner's program. It writes down the periods that a console's tasks can live with,
-// looks for the least hyperperiod and prints what it was given, what it did and what it found.
+// The frame planner's program. It writes down what a console's tasks can live with, plans them and
+// prints what it was given and what it found: the plan, or why there is none.
 
 mod console;
 mod entries;
+mod four;
 mod report;
-mod worked;
 
-use std::io;
+use std::error::AnyError;
 
-fn main(rt: LibcRuntime) -> io::Result<()> {
-    console::plan(&rt)?;
-    worked::ranges(&rt)?;
-    worked::layers(&rt)
+fn main(rt: LibcRuntime) -> Result<(), AnyError> {
+    let done = run(&rt);
+    if let Err(error) = &done {
+        let _ = eprintln!(rt, "menkozar: {error}");
+    }
+    done
+}
+
+fn run(rt: &LibcRuntime) -> Result<(), AnyError> {
+    console::plan(rt)?;
+    four::seek(rt)?;
+    Ok(())
 }
