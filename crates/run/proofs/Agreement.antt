@@ -20,8 +20,8 @@ use Rattle.planning.specs.Hyperperiod.{Chosen}
 use Rattle.planning.specs.Sizes.{framesOf}
 use Rattle.run.specs.declared.event.Event.{Event}
 use Rattle.run.specs.declared.planner.Planner.{Planner}
-use Rattle.run.specs.Account.{Account, Standing, hear}
-use Rattle.run.specs.Agrees.{Agrees, AtPlace, Carries, Ends, StandsAs, upcomingIn}
+use Rattle.run.specs.Account.{Account, Standing, hear, isGranted}
+use Rattle.run.specs.Agrees.{Agrees, AlteredIf, AtPlace, Carries, Ends, StandsAs, Unaltered, upcomingIn}
 use Rattle.run.specs.Events.{Begins, frameEnds, joined, rowsIn, runEvents, sliceOf}
 use Rattle.run.specs.Kept.{Kept, KeptBy, Delivers}
 use Rattle.run.specs.Right.{NextRight, PeriodFound, PlanRight, Right, RowRight, TableOf}
@@ -151,13 +151,14 @@ agrees-kept meaning p a agrees =
     stands-kept (meaning (p .book)) (p .stands) (p .plan) (p .repetition) (p .frame) (p .row) (a .plan) (a .events) (agrees .standing)
 
 -- a call carries an account on where its answer is right and the planner then agrees
-pub carries : {B : Type 0} (meaning : B → Meaning) (p q : Planner B) (call : Call) (answer : Answer) → q .book ≡ p .book → ((a : Account) → Agrees meaning p a → Right (meaning (p .book)) a call answer) → ((a : Account) → Agrees meaning p a → Agrees meaning q (hear a call answer)) → Carries meaning p q call answer
-carries meaning p q call answer same right agrees =
+pub carries : {B : Type 0} (meaning : B → Meaning) (p q : Planner B) (call : Call) (answer : Answer) → q .book ≡ p .book → ((a : Account) → Agrees meaning p a → Right (meaning (p .book)) a call answer) → ((a : Account) → Agrees meaning p a → Agrees meaning q (hear a call answer)) → AlteredIf (isGranted answer) p q → Carries meaning p q call answer
+carries meaning p q call answer same right agrees unaltered =
     record {
       same = same;
       right = right;
       kept = λ a h. subst (λ b. Kept (meaning b) (hear a call answer)) same (agrees-kept meaning q (hear a call answer) (agrees a h));
       agrees = agrees;
+      unaltered = unaltered;
     }
 
 module _ (m : Meaning) (figures : List (Option Figures)) (ceiling : ℕ) (plan : Plan) (made : PlanMade m figures ceiling plan) where
@@ -198,3 +199,8 @@ frame-ended meaning p q ending ends on below none =
       figures = ends .figures ∙ h .figures;
       standing = subst (λ b. StandsAs (meaning b) (q .stands) (q .plan) (q .repetition) (q .frame) (q .row) (a .plan) (a .events ++ ending ∷ [])) (sym (ends .book)) flagged;
     })
+    tt
+
+-- a planner that nothing touched is unaltered
+pub untouched : {B : Type 0} (p : Planner B) → Unaltered p p
+untouched p = record { book = refl; figures = refl; stands = refl; plan = refl; repetition = refl; frame = refl; row = refl }

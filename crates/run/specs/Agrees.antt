@@ -21,7 +21,7 @@ use Rattle.run.specs.declared.event.Event.the-variants.{FrameEnd}
 use Rattle.run.specs.declared.planner.Planner.{Planner}
 use Rattle.run.specs.declared.planner.calls.Granted.{Granted}
 use Rattle.run.specs.declared.refusal.Refusal.{Refusal}
-use Rattle.run.specs.Account.{Account, Standing, hear}
+use Rattle.run.specs.Account.{Account, Standing, hear, isGranted}
 use Rattle.run.specs.Events.{frameEvents, joined, rowsIn, runEvents, sliceOf}
 use Rattle.run.specs.Kept.{Kept}
 use Rattle.run.specs.Right.{Right}
@@ -94,10 +94,27 @@ pub record Agrees {B : Type 0} (meaning : B → Meaning) (p : Planner B) (a : Ac
   pub figures : p .figures ≡ a .figures
   pub standing : StandsAs (meaning (p .book)) (p .stands) (p .plan) (p .repetition) (p .frame) (p .row) (a .plan) (a .events)
 
+-- A planner is as it was, but for the memory that it works in.
+pub record Unaltered {B : Type 0} (p q : Planner B) : Type 0 where
+  pub book : q .book ≡ p .book
+  pub figures : q .figures ≡ p .figures
+  pub stands : q .stands ≡ p .stands
+  pub plan : q .plan ≡ p .plan
+  pub repetition : q .repetition ≡ p .repetition
+  pub frame : q .frame ≡ p .frame
+  pub row : q .row ≡ p .row
+
+-- A planner after a refusal is unaltered; after a granted call, this says nothing.
+abbrev pub AlteredIf : {B : Type 0} → Bool → Planner B → Planner B → Type 0
+AlteredIf true p q = Unit {0}
+AlteredIf false p q = Unaltered p q
+
 -- What every call promises, of every account that agrees with the planner before it: the answer is right, what is
--- kept holds of the account after it, the planner then agrees with that account, and its book is the same.
+-- kept holds of the account after it, the planner then agrees with that account, its book is the same, and a
+-- refused call alters nothing.
 pub record Carries {B : Type 0} (meaning : B → Meaning) (p q : Planner B) (call : Call) (answer : Answer) : Type 0 where
   pub same : q .book ≡ p .book
   pub right : (a : Account) → Agrees meaning p a → Right (meaning (p .book)) a call answer
   pub kept : (a : Account) → Agrees meaning p a → Kept (meaning (p .book)) (hear a call answer)
   pub agrees : (a : Account) → Agrees meaning p a → Agrees meaning q (hear a call answer)
+  pub unaltered : AlteredIf (isGranted answer) p q

@@ -11,4 +11,4 @@ returns g c =
     (λ a h.
     subst (PeriodFound m (a .plan) (c .args .task)) (sym (c .period .ensures))
     (period-found m (p .stands) (p .plan) (p .repetition) (p .frame) (p .row) (c .if-not-self .left) (a .plan) (a .events) (c .args .task) (h .standing)))
-    (λ a h. h)
+    (λ a h. h) tt

@@ -22,7 +22,8 @@ returns-in-Break-make-plan g c =
     record {
       figures = h .figures;
       standing = subst (λ x. StandsAs m (p .stands) x (p .repetition) (p .frame) (p .row) (a .plan) (a .events)) (sym (refused .1)) (h .standing);
-    }))
+    })
+    (record { book = refl; figures = refl; stands = refl; plan = refused .1; repetition = refl; frame = refl; row = refl }))
 
 pub returns : need.returns
 returns g c =
@@ -45,3 +46,4 @@ returns g c =
         plan-begins m (p .figures) (c .args .ceiling) plan made,
       );
     })
+    tt

@@ -13,4 +13,4 @@ returns g c =
     let back = goes-back m (p .stands) (p .plan) (p .repetition) (p .frame) (p .row) (c .if-not-self .left) in
     carries (g .B·Book .means) p _ _ _ refl
     (λ a h. sym (cond-true (isSome (a .plan)) Rewound (Refused NoPlan) (back (a .plan) (a .events) (h .standing) .0)))
-    (λ a h. record { figures = h .figures; standing = back (a .plan) (a .events) (h .standing) .1 })
+    (λ a h. record { figures = h .figures; standing = back (a .plan) (a .events) (h .standing) .1 }) tt

@@ -12,4 +12,4 @@ returns g c =
     (λ a h.
     subst (λ found. RowRight m (a .plan) (c .args .index) (RowIs found)) (sym (c .row .ensures))
     (row-found m (p .stands) (p .plan) (p .repetition) (p .frame) (p .row) (c .if-not-self .left) (a .plan) (a .events) (c .args .index) (h .standing)))
-    (λ a h. h)
+    (λ a h. h) tt
