@@ -38,24 +38,15 @@ isGranted (PeriodIs period) = true
 isGranted (RowIs row) = true
 isGranted (Refused refusal) = false
 
--- The hyperperiod and the frame size that an answer names.
-abbrev pub hyperperiodIn : Answer → ℕ
-hyperperiodIn Charged = 0
-hyperperiodIn (Planned h f jobs rows) = h
-hyperperiodIn Rewound = 0
-hyperperiodIn (Came event) = 0
-hyperperiodIn (PeriodIs period) = 0
-hyperperiodIn (RowIs row) = 0
-hyperperiodIn (Refused refusal) = 0
-
-abbrev pub sizeIn : Answer → ℕ
-sizeIn Charged = 0
-sizeIn (Planned h f jobs rows) = f
-sizeIn Rewound = 0
-sizeIn (Came event) = 0
-sizeIn (PeriodIs period) = 0
-sizeIn (RowIs row) = 0
-sizeIn (Refused refusal) = 0
+-- What is kept of a granted plan, with the figures noted at that time.
+abbrev pub keptIn : List (Option Figures) → Answer → Option Standing
+keptIn figures Charged = None
+keptIn figures (Planned h f jobs rows) = Some (record { hyperperiod = h; size = f; figures = figures })
+keptIn figures Rewound = None
+keptIn figures (Came event) = None
+keptIn figures (PeriodIs period) = None
+keptIn figures (RowIs row) = None
+keptIn figures (Refused refusal) = None
 
 -- The event that an answer brings, if any.
 abbrev pub eventsIn : Answer → List Event
@@ -76,11 +67,7 @@ noted a (Charge task cost deadline) answer = record {
   plan = None;
   events = a .events;
 }
-noted a (Plan ceiling) answer = record {
-  figures = a .figures;
-  plan = Some (record { hyperperiod = hyperperiodIn answer; size = sizeIn answer; figures = a .figures });
-  events = [];
-}
+noted a (Plan ceiling) answer = record { figures = a .figures; plan = keptIn (a .figures) answer; events = [] }
 noted a Rewind answer = record { figures = a .figures; plan = a .plan; events = [] }
 noted a Next answer = record { figures = a .figures; plan = a .plan; events = a .events ++ eventsIn answer }
 noted a (Period task) answer = a
