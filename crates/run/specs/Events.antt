@@ -8,6 +8,20 @@ use Rattle.planning.specs.declared.job.Row.{Row}
 use Rattle.run.specs.declared.event.Event.{Event}
 use Rattle.run.specs.declared.event.Event.the-variants.{Slice, FrameEnd}
 
+-- What an event tells: its kind, 1 for a slice and 2 for a frame's end, its repetition and frame, and the task,
+-- job and length of a slice, which are 0 for a frame's end.
+pub record Told : Type 0 where
+  pub kind : ℕ
+  pub repetition : ℕ
+  pub frame : ℕ
+  pub task : ℕ
+  pub job : ℕ
+  pub length : ℕ
+
+abbrev pub told : Event → Told
+told (Slice r g t j l) = record { kind = 1; repetition = r; frame = g; task = t; job = j; length = l }
+told (FrameEnd r g) = record { kind = 2; repetition = r; frame = g; task = 0; job = 0; length = 0 }
+
 -- The lists f 0, f 1, .. and f (n - 1), one after the other.
 abbrev pub joined : {X : Type 0} → ℕ → (ℕ → List X) → List X
 joined zero f = []
