@@ -11,7 +11,7 @@ use Rattle.planning.proofs.chosen.chosen_period.Needs as need
 use Rattle.planning.proofs.chosen.chosen_period.Needs.{else-period-times·by·then-period-times·else-allows, else-period-times·by·else-period-times}
 
 pub loop-times-holds : need.loop-times-holds
-loop-times-holds g c = (omega arith, λ q d. quotient-from-one (c .args .number) q (d .1) (omega arith))
+loop-times-holds g c = (omega arith, λ q d. omega (arith, quotient-from-one (c .args .number) q (d .1) (omega arith)))
 
 pub returns-then-allows : need.returns-then-allows
 returns-then-allows g c =
