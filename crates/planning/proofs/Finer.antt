@@ -8,7 +8,7 @@ use lib.Dec.{leb}
 use Rattle.std.proofs.shelf.Tests.{and-from, and-parts, cases-lt, le-leb, leb-true}
 use Rattle.planning.specs.Placing.{Sum, Jobs, Frames, Gifts, isOpen, given, Fills, finer}
 use Rattle.planning.specs.Theorems.{Divisors-fill}
-use Rattle.planning.proofs.Sums.{sum-at-most, sum-same, sum-swapped, sum-grows}
+use Rattle.planning.proofs.Sums.{some-term, sum-at-most, sum-same, sum-swapped, sum-grows}
 
 -- how many ticks the stretches from a up to b and from c up to d share
 abbrev shared : ℕ → ℕ → ℕ → ℕ → ℕ
@@ -20,15 +20,6 @@ stretches-share X c d grows l zero = (omega arith, omega arith)
 stretches-share X c d grows l (suc n) =
     let rest = stretches-share X c d grows l n in
     (omega (arith, rest .0, grows n), omega (arith, rest .0, rest .1, grows n))
-
--- one of the terms of a sum above 0 is above 0
-some-term : (n : ℕ) (h : ℕ → ℕ) → 0 < Sum n h → (i : ℕ) × (i < n) × (0 < h i)
-some-term zero h some = absurd (omega arith)
-some-term (suc n) h some =
-    ⊎-elim {C = (i : ℕ) × (i < suc n) × (0 < h i)}
-    (λ last. (n, omega arith, last))
-    (λ (none : h n ≤ 0). let rest = some-term n h (omega arith) in (rest .0, omega (arith, rest .1), rest .2))
-    (cases-lt 0 (h n))
 
 -- The gifts of each frame lie end to end from its first tick on, and a finer frame gives what its ticks
 -- share with them.

@@ -103,10 +103,6 @@ module _ (hyperperiod : ℕ) (period : ℕ → ℕ) (figures : ℕ → Figures) 
         omega (arith, ap (λ t. getD firsts t 0) a-task, a-job, noted (a .task) (a .low), a .place),
       )
 
--- a sum with one term more
-pub sum-one-more : (n : ℕ) (h : ℕ → ℕ) → Sum (n + 1) h ≡ Sum n h + h n
-sum-one-more n h = rw add-one
-
 -- a task has no more jobs than the hyperperiod has ticks
 pub jobs-at-most : (hyperperiod n : ℕ) (period : ℕ → ℕ) → hyperperiod ≤ 1000000 → Sum n (λ t. hyperperiod / period t) ≤ n * 1000000
 jobs-at-most hyperperiod zero period few = omega arith

@@ -6,7 +6,8 @@ use native.Mathlib.Decide.{le-ind}
 use native.Mathlib.Nat.{mul-suc}
 use native.Mathlib.Omega.{arith}
 use lib.Dec.{eqb}
-use Rattle.std.proofs.shelf.Tests.{cases-bool, cond-false, cond-true}
+use native.Mathlib.Numerals.{add-one}
+use Rattle.std.proofs.shelf.Tests.{cases-bool, cases-lt, cond-false, cond-true}
 use Rattle.std.proofs.shelf.Ways.{tells}
 use Rattle.planning.specs.Placing.{Sum}
 
@@ -101,3 +102,16 @@ rows-at-most m a b f h l each =
     (λ t low before high.
     omega (arith, before (omega arith), each t low (omega arith), sum-of-both m (λ k. Sum t (λ g. h g k)) (h t), ap (λ x. f * x) (let z : suc t - a ≡ suc (t - a) = omega arith in z), mul-suc f (t - a)))
     b l (omega arith)
+
+-- a sum has one term more
+pub sum-more : (n : ℕ) (h : ℕ → ℕ) → Sum (n + 1) h ≡ Sum n h + h n
+sum-more n h = rw (add-one n) refl
+
+-- a sum above 0 has a term above 0
+pub some-term : (n : ℕ) (h : ℕ → ℕ) → 0 < Sum n h → (i : ℕ) × (i < n) × (0 < h i)
+some-term zero h some = absurd (omega arith)
+some-term (suc n) h some =
+    ⊎-elim {C = (i : ℕ) × (i < suc n) × (0 < h i)}
+    (λ here. (n, omega arith, here))
+    (λ (none : h n ≤ 0). let before = some-term n h (omega arith) in (before .0, omega (arith, before .1), before .2))
+    (cases-lt 0 (h n))

@@ -21,9 +21,8 @@ use Rattle.planning.specs.Waits.{lacking}
 use Rattle.planning.specs.Windows.{jobAt, placed}
 use Rattle.planning.proofs.FrameLoop.{served-alike, served-frames-are-greedy, served-stays}
 use Rattle.planning.proofs.Greedy.{greedy-is-one, loop-facts-are-greedy}
-use Rattle.planning.proofs.Sums.{sum-at-most, sum-of-ones, sum-same}
+use Rattle.planning.proofs.Sums.{sum-at-most, sum-of-ones, sum-same, sum-more}
 use Rattle.planning.proofs.Underway.{map-alike}
-use Rattle.planning.proofs.Weighed.{sum-more}
 
 -- the table with another row in frame g
 abbrev withRow : Gifts → ℕ → (ℕ → ℕ) → Gifts

@@ -21,19 +21,7 @@ use Rattle.planning.specs.declared.job.Job.{Job}
 use Rattle.planning.specs.Placing.{Sum, isBefore}
 use Rattle.planning.specs.Waits.{waitingOf, Holds}
 use Rattle.planning.specs.Windows.{jobAt, placed, InOrder}
-use Rattle.planning.proofs.Sums.{sum-same, sum-of-both, sum-of-only, only, only-elsewhere, only-here, term-at-most-sum}
-
-pub sum-more : (n : ℕ) (h : ℕ → ℕ) → Sum (n + 1) h ≡ Sum n h + h n
-sum-more n h = rw (add-one n) refl
-
--- a sum above 0 has a term above 0
-pub some-term : (n : ℕ) (h : ℕ → ℕ) → 0 < Sum n h → (i : ℕ) × (i < n) × (0 < h i)
-some-term zero h some = absurd (omega arith)
-some-term (suc n) h some =
-    ⊎-elim {C = (i : ℕ) × (i < suc n) × (0 < h i)}
-    (λ here. (n, omega arith, here))
-    (λ (none : h n ≤ 0). let before = some-term n h (omega arith) in (before .0, omega (arith, before .1), before .2))
-    (cases-lt 0 (h n))
+use Rattle.planning.proofs.Sums.{some-term, sum-more, sum-same, sum-of-both, sum-of-only, only, only-elsewhere, only-here, term-at-most-sum}
 
 -- the weight of job i among those that wait
 abbrev weighed : List Job → (ℕ → Bool) → (Waiting → ℕ) → ℕ → ℕ

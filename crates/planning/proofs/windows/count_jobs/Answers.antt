@@ -2,7 +2,8 @@ use Prim.Native.Nat.{ℕ, _/_}
 use native.Mathlib.Nat.{div-le-self}
 use native.Mathlib.Omega.{arith}
 use lib.ListN.{getD}
-use Rattle.planning.proofs.ListedJobs.{jobs-at-most, sum-one-more}
+use Rattle.planning.proofs.Sums.{sum-more}
+use Rattle.planning.proofs.ListedJobs.{jobs-at-most}
 use Rattle.planning.proofs.windows.count_jobs.Needs as need
 
 pub add-count : need.add-count
@@ -12,4 +13,4 @@ add-count c =
 
 pub loop-task-again : need.loop-task-again
 loop-task-again c =
-    omega (arith, sum-one-more (c .loop-task .task) (λ t. c .args .hyperperiod / getD (c .args .periods .now) t 0))
+    omega (arith, sum-more (c .loop-task .task) (λ t. c .args .hyperperiod / getD (c .args .periods .now) t 0))

@@ -7,7 +7,8 @@ use Rattle.planning.specs.Charges.{figuresAt}
 use Rattle.planning.specs.declared.job.Figures.{Figures}
 use Rattle.planning.specs.Placing.{Sum}
 use Rattle.planning.specs.Windows.{jobsOf, InOrder, Indexed}
-use Rattle.planning.proofs.ListedJobs.{firsts-index, jobs-in-order, next-first-noted, next-task-listed, sum-one-more}
+use Rattle.planning.proofs.Sums.{sum-more}
+use Rattle.planning.proofs.ListedJobs.{firsts-index, jobs-in-order, next-first-noted, next-task-listed}
 use Rattle.planning.proofs.Sums.{sum-grows}
 use Rattle.planning.proofs.windows.list_jobs.Needs as need
 
@@ -36,7 +37,7 @@ loop-task-again c =
           (c .figures-of .ensures)
           (inv .0)
           (c .list-task .ensures .items),
-      omega (arith, c .list-task .ensures .len, inv .1, sum-one-more task counts),
+      omega (arith, c .list-task .ensures .len, inv .1, sum-more task counts),
       omega (arith, c .list-task .ensures .capacity, inv .2),
       length-set (c .loop-task .firsts) task (c .len .result) ∙ inv .3,
       next-first-noted (c .loop-task .firsts) task (c .len .result) counts inside (c .len .ensures ∙ inv .1) (inv .4),
