@@ -4,7 +4,7 @@
 use crate::entries;
 use crate::entries::ListTask;
 use crate::entries::RangeTask;
-use crate::report;
+use crate::session;
 use books::Grid;
 use books::GridBook;
 use books::ListBookBook;
@@ -12,6 +12,7 @@ use books::RangeBookBook;
 use books::SideBySide;
 use books::SideBySideBook;
 use planning::Figures;
+use run::Planner;
 use std::io;
 
 const RANGES: [RangeTask; 5] = [
@@ -89,7 +90,7 @@ const LISTS: [ListTask; 3] = [
     },
 ];
 
-pub fn plan(rt: &LibcRuntime) -> io::Result<()> {
+pub fn show(rt: &LibcRuntime) -> io::Result<()> {
     println!(
         rt,
         "A console: ranges and lists side by side, on a grid of 2"
@@ -98,5 +99,8 @@ pub fn plan(rt: &LibcRuntime) -> io::Result<()> {
     let ranges = entries::ranges(rt, &RANGES, &mut figures)?;
     let lists = entries::lists(rt, &LISTS, &mut figures)?;
     let book = Grid::new(SideBySide::new(ranges, lists), 2);
-    report::plan(rt, &book, &figures, 1_000_000)
+    let mut planner = Planner::new(rt.alloc(), book)?;
+    session::charge_all(rt, &mut planner, &figures)?;
+    session::plan_and_run(rt, &mut planner, 1_000_000)?;
+    session::refusals(rt, &mut planner)
 }

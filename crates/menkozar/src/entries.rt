@@ -28,13 +28,13 @@ pub struct ListTask {
 pub fn ranges(
     rt: &LibcRuntime,
     tasks: &[RangeTask],
-    figures: &mut Vec<Option<Figures>>,
+    figures: &mut Vec<Figures>,
 ) -> io::Result<RangeBook> {
     let mut book = RangeBook::new();
     for task in tasks {
         range_line(rt, task)?;
         match book.add(task.low, task.high) {
-            Ok(()) => figures.push(Some(task.figures))?,
+            Ok(()) => figures.push(task.figures)?,
             Err(fault) => refused(rt, fault)?,
         }
     }
@@ -45,13 +45,13 @@ pub fn ranges(
 pub fn lists(
     rt: &LibcRuntime,
     tasks: &[ListTask],
-    figures: &mut Vec<Option<Figures>>,
+    figures: &mut Vec<Figures>,
 ) -> io::Result<ListBook> {
     let mut book = ListBook::new();
     for task in tasks {
         list_line(rt, task)?;
         match book.add(task.periods) {
-            Ok(()) => figures.push(Some(task.figures))?,
+            Ok(()) => figures.push(task.figures)?,
             Err(fault) => refused(rt, fault)?,
         }
     }

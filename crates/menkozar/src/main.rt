@@ -1,10 +1,12 @@
-// The frame planner's program. It writes down what a console's tasks can live with, plans them and
-// prints what it was given and what it found: the plan, or why there is none.
+// The frame planner's program. It writes down what a console's tasks can live with, charges a planner
+// with their figures, plans them, goes through the table once, and prints what it was given and what
+// came: each event, or why a call is refused.
 
 mod console;
 mod entries;
 mod four;
 mod report;
+mod session;
 
 use std::error::AnyError;
 
@@ -17,7 +19,7 @@ fn main(rt: LibcRuntime) -> Result<(), AnyError> {
 }
 
 fn run(rt: &LibcRuntime) -> Result<(), AnyError> {
-    console::plan(rt)?;
+    console::show(rt)?;
     four::seek(rt)?;
     Ok(())
 }
