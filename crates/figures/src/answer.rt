@@ -10,7 +10,7 @@ use planning::make_plan;
 use std::io;
 
 // Plans and prints the plan's line, or the refusal; answers whether there is a plan.
-pub fn line<B: Book>(
+pub(crate) fn line<B: Book>(
     rt: &LibcRuntime,
     book: &B,
     figures: &[Option<Figures>],
@@ -31,7 +31,7 @@ pub fn line<B: Book>(
 }
 
 // Plans and prints the plan with its periods and its table, or the refusal.
-pub fn whole<B: Book>(
+pub(crate) fn whole<B: Book>(
     rt: &LibcRuntime,
     book: &B,
     figures: &[Option<Figures>],

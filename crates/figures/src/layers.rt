@@ -34,7 +34,7 @@ const EXAMPLE: [RangeTask; 2] = [(4, 5, 1, 4), (11, 12, 3, 12)];
 
 const EXAMPLE_LISTED: [ListTask; 1] = [(&[6, 9], 2, 5)];
 
-pub fn try_all(rt: &LibcRuntime, space: &mut Workspace, plan: &mut Plan) -> io::Result<()> {
+pub(crate) fn try_all(rt: &LibcRuntime, space: &mut Workspace, plan: &mut Plan) -> io::Result<()> {
     two_ranges(rt, space, plan)?;
     list_beside_range(rt, space, plan)?;
     off_the_grid(rt, space, plan)?;

@@ -25,7 +25,7 @@ const SETS: [&[Task]; 9] = [
     &[(1, 1, 1), (1024, 1, 1024)],
 ];
 
-pub fn try_all(rt: &LibcRuntime, space: &mut Workspace, plan: &mut Plan) -> io::Result<()> {
+pub(crate) fn try_all(rt: &LibcRuntime, space: &mut Workspace, plan: &mut Plan) -> io::Result<()> {
     for tasks in SETS {
         try_set(rt, tasks, space, plan)?;
     }

@@ -90,7 +90,7 @@ const LISTS: [ListTask; 3] = [
     },
 ];
 
-pub fn show(rt: &LibcRuntime) -> io::Result<()> {
+pub(crate) fn show(rt: &LibcRuntime) -> io::Result<()> {
     println!(
         rt,
         "A console: ranges and lists side by side, on a grid of 2"

@@ -25,7 +25,7 @@ pub struct ListTask {
 }
 
 // A book of the tasks that are not refused, whose figures are added.
-pub fn ranges(
+pub(crate) fn ranges(
     rt: &LibcRuntime,
     tasks: &[RangeTask],
     figures: &mut Vec<Figures>,
@@ -42,7 +42,7 @@ pub fn ranges(
 }
 
 // A book of the tasks that are not refused, whose figures are added.
-pub fn lists(
+pub(crate) fn lists(
     rt: &LibcRuntime,
     tasks: &[ListTask],
     figures: &mut Vec<Figures>,
@@ -59,7 +59,7 @@ pub fn lists(
 }
 
 // The refusal of an entry.
-pub fn refused(rt: &LibcRuntime, fault: EntryFault) -> io::Result<()> {
+pub(crate) fn refused(rt: &LibcRuntime, fault: EntryFault) -> io::Result<()> {
     let number = fault.number();
     let line = fault.line();
     let field = fault.field();

@@ -13,7 +13,7 @@ const RANGES: [(&str, u32, u32); 4] = [
     ("d", 97_994, 102_006),
 ];
 
-pub fn seek(rt: &LibcRuntime) -> io::Result<()> {
+pub(crate) fn seek(rt: &LibcRuntime) -> io::Result<()> {
     println!(rt, "Four ranges (Brocal and others, 2013)")?;
     let mut book = RangeBook::new();
     for range in &RANGES {

@@ -7,7 +7,7 @@ use planning::seek;
 use std::io;
 
 // The least hyperperiod up to the ceiling and the chosen period of each task, or the refusal.
-pub fn hyperperiod<B: Book>(rt: &LibcRuntime, book: &B, ceiling: u32) -> io::Result<()> {
+pub(crate) fn hyperperiod<B: Book>(rt: &LibcRuntime, book: &B, ceiling: u32) -> io::Result<()> {
     println!(rt, "seek up to {ceiling}")?;
     match seek(book, ceiling) {
         Ok(number) => {

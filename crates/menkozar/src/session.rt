@@ -9,7 +9,7 @@ use run::Refusal;
 use std::io;
 
 // Charges the tasks in order, each with its figures; a book has 16 tasks at most.
-pub fn charge_all<B: Book>(
+pub(crate) fn charge_all<B: Book>(
     rt: &LibcRuntime,
     planner: &mut Planner<B>,
     figures: &[Figures],
@@ -23,7 +23,7 @@ pub fn charge_all<B: Book>(
 }
 
 // Plans, goes through one repetition of the table, and takes the first event of the following one.
-pub fn plan_and_run<B: Book>(
+pub(crate) fn plan_and_run<B: Book>(
     rt: &LibcRuntime,
     planner: &mut Planner<B>,
     ceiling: u32,
@@ -41,7 +41,7 @@ pub fn plan_and_run<B: Book>(
 
 // Calls that are refused: a charge with no cost, an event after a charge that ended the plan, and a
 // plan under no ceiling.
-pub fn refusals<B: Book>(rt: &LibcRuntime, planner: &mut Planner<B>) -> io::Result<()> {
+pub(crate) fn refusals<B: Book>(rt: &LibcRuntime, planner: &mut Planner<B>) -> io::Result<()> {
     println!(rt, "charge task 1 with a cost of 0")?;
     if let Err(refusal) = planner.charge(1, 0, 8) {
         refused(rt, refusal)?;

@@ -6,7 +6,7 @@ use run::Event;
 use run::Refusal;
 use std::io;
 
-pub fn line(rt: &LibcRuntime, answer: Answer) -> io::Result<()> {
+pub(crate) fn line(rt: &LibcRuntime, answer: Answer) -> io::Result<()> {
     match answer {
         Answer::Charged => println!(rt, "charged"),
         Answer::Planned {
