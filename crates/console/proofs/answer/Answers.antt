@@ -7,14 +7,14 @@ pub returns-in-Ok : goal.returns-in-Ok
 returns-in-Ok c =
     plan_told c.args.ranges.now c.args.lists.now c.args.step c.args.ceiling c.in-Ok.field-0 c.prepare.new.planner c.args.out.now c.print.new.out
     c.print.result
-    (subst (λ r. Answered c.args.ranges.now c.args.lists.now c.args.step c.args.ceiling c.in-ok-planner.planner c.prepare.new.planner r) c.in-Ok.is
-    c.in-ok-prepare.ensures)
+    (subst (λ r. Answered c.args.ranges.now c.args.lists.now c.args.step c.args.ceiling c.in_ok-planner.planner c.prepare.new.planner r) c.in-Ok.is
+    c.in_ok-prepare.ensures)
     c.print.ensures
 
 pub returns : goal.returns
 returns c =
-    fault_told c.args.ranges.now c.args.lists.now c.args.step c.args.ceiling c.in-Err.fault c.notice.result c.args.out.now c.print-notice.new.out
-    c.print-notice.result
-    (subst (λ r. Answered c.args.ranges.now c.args.lists.now c.args.step c.args.ceiling c.in-ok-planner.planner c.prepare.new.planner r) c.in-Err.is
-    c.in-ok-prepare.ensures).0
-    c.notice.ensures c.print-notice.ensures
+    fault_told c.args.ranges.now c.args.lists.now c.args.step c.args.ceiling c.in-Err.fault c.notice.result c.args.out.now c.print_notice.new.out
+    c.print_notice.result
+    (subst (λ r. Answered c.args.ranges.now c.args.lists.now c.args.step c.args.ceiling c.in_ok-planner.planner c.prepare.new.planner r) c.in-Err.is
+    c.in_ok-prepare.ensures).0
+    c.notice.ensures c.print_notice.ensures

@@ -11,11 +11,11 @@ loop-at-init g c = (
   rise_begins g.T.Ranked.le c.args.s.now _ _ refl (omega arith),
 )
 
-pub returns-then-at-most-at : goal.returns-then-at-most-at
-returns-then-at-most-at g c = record {
+pub returns-then-at_most_at : goal.returns-then-at_most_at
+returns-then-at_most_at g c = record {
   shuffled = c.loop-at.invariant.2;
   sound = λ h. rise_rests g.T.Ranked.le c.loop-at.s ((c.loop-at.at - 1) / 2) c.loop-at.at (length c.args.s.now)
-      (omega arith) (omega arith) (omega arith) (λ d. sym (c.if-at-most-at.ensures d)) (c.loop-at.invariant.3 h);
+      (omega arith) (omega arith) (omega arith) (λ d. sym (c.if-at_most_at.ensures d)) (c.loop-at.invariant.3 h);
 }
 
 pub returns : goal.returns
@@ -32,5 +32,5 @@ loop-at-preserved g c =
       IsPermutation-trans _ _ _ c.loop-at.invariant.2 c.swap.ensures.permutation,
       λ h. rise_steps g.T.Ranked.le g.met.T.Ranked.total c.loop-at.s c.swap.new.self
           ((c.loop-at.at - 1) / 2) c.loop-at.at (length c.args.s.now) (omega arith) (omega arith) (omega arith)
-          places.0 places.1 places.2 (λ d. sym (c.if-at-most-at.ensures d)) (c.loop-at.invariant.3 h),
+          places.0 places.1 places.2 (λ d. sym (c.if-at_most_at.ensures d)) (c.loop-at.invariant.3 h),
     )

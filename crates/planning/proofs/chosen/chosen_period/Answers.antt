@@ -42,8 +42,8 @@ loop-times-preserved g c =
 
 pub returns : goal.returns
 returns g c low high (q, d) =
-    let least = c.in-ok-least.ensures.least in
-    let inside = c.in-ok-least.ensures.fair.inside c.args.task q d.0 in
-    no_quotient_left c.args.number c.in-ok-least.least c.loop-times.times q least.0
-    (least_at_most ((g.B.Book.means c.args.book.now).allowed c.args.task) 1 c.in-ok-least.least q least inside.1 d.0)
+    let least = c.in_ok-least.ensures.least in
+    let inside = c.in_ok-least.ensures.fair.inside c.args.task q d.0 in
+    no_quotient_left c.args.number c.in_ok-least.least c.loop-times.times q least.0
+    (least_at_most ((g.B.Book.means c.args.book.now).allowed c.args.task) 1 c.in_ok-least.least q least inside.1 d.0)
     c.loop-times-test.false (c.loop-times.invariant.1 q d)

@@ -18,13 +18,13 @@ loop-left-init c = (
   refl,
 )
 
-pub returns-in-default : goal.returns-in-default
-returns-in-default c =
+pub returns-in_default : goal.returns-in_default
+returns-in_default c =
     let inv = c.loop-left.invariant in
     record {
       served =
           service_ends c.args.jobs.now c.args.frame c.args.size c.args.lacks.now c.loop-left.lacks c.loop-left.left (held c.loop-left.waiting) (vec_items c.args.rows.now) (vec_items c.loop-left.rows)
-          inv.0 (inr c.in-default.ensures.held.0);
+          inv.0 (inr c.in_default.ensures.held.0);
       rows = inv.0.added;
       few = omega (arith, inv.2);
       capacity = inv.3;

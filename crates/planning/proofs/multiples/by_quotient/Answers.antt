@@ -8,7 +8,7 @@ use Rattle.planning.proofs.multiples.by_quotient.Goals.{then-period-times, else-
 pub loop-times-init : goal.loop-times-init
 loop-times-init g c = (
   omega arith,
-  c.steps-to-times.ensures.least c.args.from (le-mul_of_pos_right c.args.from c.requires.4),
+  c.steps_to-times.ensures.least c.args.from (le-mul_of_pos_right c.args.from c.requires.4),
   record { most = omega arith; reaches = c.requires.1; serves = λ h. absurd (omega arith) },
   λ q j a low high r. absurd (omega arith),
 )
@@ -19,24 +19,24 @@ loop-times-preserved g c =
     let inv = c.loop-times.invariant in
     let best = c.loop-times.best in
     let k = c.loop-times.times in
-    let low = c.steps-to-period.result in
-    let more = quotient_more m c.args.task c.args.from c.args.bound best inv.2 k c.steps-to-times.result low in
-    let Step : ℕ → Type 0 = λ new. Lowered m c.args.task c.args.from c.args.bound new × BoundsFor m c.args.task c.args.from new (k - 1) c.steps-to-times.result in
+    let low = c.steps_to-period.result in
+    let more = quotient_more m c.args.task c.args.from c.args.bound best inv.2 k c.steps_to-times.result low in
+    let Step : ℕ → Type 0 = λ new. Lowered m c.args.task c.args.from c.args.bound new × BoundsFor m c.args.task c.args.from new (k - 1) c.steps_to-times.result in
     let step : Step c.if-period-times.best =
     elim c.if-period-times.branch [
       | then-period-times w ↦
-          let by = w.lowered-by-best.ensures in
-          let new = w.lowered-by-best.result in
+          let by = w.lowered_by-best.ensures in
+          let new = w.lowered_by-best.result in
           subst Step (sym w.best-is) (
             lowered_again m c.args.task c.args.from c.args.bound best inv.2 new by.most
-                (lowered_reaches m c.args.task c.args.from low k best new c.steps-to-period.ensures.reaches (omega arith) by)
+                (lowered_reaches m c.args.task c.args.from low k best new c.steps_to-period.ensures.reaches (omega arith) by)
                 (lowered_serves m c.args.task low k best new by),
-            more new c.loop-times-test.true inv.3 by.most c.steps-to-period.ensures.least by.bounds,
+            more new c.loop-times-test.true inv.3 by.most c.steps_to-period.ensures.least by.bounds,
           )
       | else-period-times w ↦
           subst Step (sym w.best-is) (
             inv.2,
-            more best c.loop-times-test.true inv.3 (omega arith) c.steps-to-period.ensures.least
+            more best c.loop-times-test.true inv.3 (omega arith) c.steps_to-period.ensures.least
                 (λ q a h. omega (arith, w.if-period-times.false, mul-le-mul_left k h, mul_comm low k)),
           )
     ]
@@ -51,7 +51,7 @@ returns-after-loop-times g c =
     record {
       lowered = inv.2;
       bounds =
-          quotients_all m c.args.task c.args.from c.loop-times.best c.args.first c.steps-to-times.result c.requires.0
-          c.steps-to-times.ensures.reaches
-          (subst (λ n. BoundsFor m c.args.task c.args.from c.loop-times.best n c.steps-to-times.result) none inv.3);
+          quotients_all m c.args.task c.args.from c.loop-times.best c.args.first c.steps_to-times.result c.requires.0
+          c.steps_to-times.ensures.reaches
+          (subst (λ n. BoundsFor m c.args.task c.args.from c.loop-times.best n c.steps_to-times.result) none inv.3);
     }

@@ -9,8 +9,8 @@ use Rattle.planning.proofs.FrameSizes.{Tried, every_size_overloaded, largest_siz
 use Rattle.planning.proofs.sizes.largest_size.Goals as goal
 use Rattle.planning.proofs.sizes.largest_size.Goals.{then-hyperperiod-count-eq0+else-write-table, else-hyperperiod-count-eq0}
 
-pub returns-then-write-table : goal.returns-then-write-table
-returns-then-write-table c =
+pub returns-then-write_table : goal.returns-then-write_table
+returns-then-write_table c =
     let h = c.args.hyperperiod in
     let count = c.loop-count.count in
     let inv = c.loop-count.invariant in
@@ -18,17 +18,17 @@ returns-then-write-table c =
     let fr : Frames = record { count = count; size = h / count } in
     let same : c.deref.result.now ≡ jobs = c.deref.ensures.value ∙ ap vec_items inv.0 in
     let finishes : (G : Gifts) → IsGreedy (placed jobs) fr G → Finishes (placed jobs) fr G =
-    subst (λ l. (G : Gifts) → IsGreedy (placed l) fr G → Finishes (placed l) fr G) same c.if-write-table.ensures.finishes
+    subst (λ l. (G : Gifts) → IsGreedy (placed l) fr G → Finishes (placed l) fr G) same c.if-write_table.ensures.finishes
     in
-    let rows : GreedyRows jobs fr (vec_items c.write-table.new.rows) =
-    subst (λ l. GreedyRows l fr (vec_items c.write-table.new.rows)) same c.if-write-table.ensures.rows
+    let rows : GreedyRows jobs fr (vec_items c.write_table.new.rows) =
+    subst (λ l. GreedyRows l fr (vec_items c.write_table.new.rows)) same c.if-write_table.ensures.rows
     in
     let back : h / (h / count) ≡ count = pair_quotient h count c.requires.some c.loop-count.auto.count c.if-hyperperiod-count-eq0.true in
     record {
       jobs = inv.0;
       found = (
         largest_size (placed jobs) h c.requires.some count c.loop-count.auto.count c.if-hyperperiod-count-eq0.true inv.2 (omega arith) finishes,
-        subst (λ n. GreedyRows jobs (record { count = n; size = h / count }) (vec_items c.write-table.new.rows)) (sym back) rows,
+        subst (λ n. GreedyRows jobs (record { count = n; size = h / count }) (vec_items c.write_table.new.rows)) (sym back) rows,
       );
     }
 
@@ -43,7 +43,7 @@ loop-count-preserved c =
       | then-hyperperiod-count-eq0+else-write-table w ↦
           let same : w.deref.result.now ≡ jobs = w.deref.ensures.value ∙ ap vec_items inv.0 in
           let fails : (G : Gifts) → IsGreedy (placed jobs) fr G → Unfinished (placed jobs) fr G =
-          subst (λ l. (G : Gifts) → IsGreedy (placed l) fr G → Unfinished (placed l) fr G) same w.if-write-table.ensures.finishes
+          subst (λ l. (G : Gifts) → IsGreedy (placed l) fr G → Unfinished (placed l) fr G) same w.if-write_table.ensures.finishes
           in (
             ap (λ s. s.jobs) w.space-is ∙ inv.0,
             ap (λ s. s.firsts) w.space-is ∙ inv.1,

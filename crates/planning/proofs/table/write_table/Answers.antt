@@ -14,8 +14,8 @@ loop-frame-init c = (
   omega (arith, c.clear.ensures.capacity, c.requires.room),
 )
 
-pub serve-frame-requires : goal.serve-frame-requires
-serve-frame-requires c =
+pub serve_frame-requires : goal.serve_frame-requires
+serve_frame-requires c =
     let product : (c.loop-frame.frame + 1) * c.args.size ≤ c.args.count * c.args.size =
     mul-le-mul_right {m = c.loop-frame.frame + 1} {n = c.args.count} c.args.size (omega arith)
     in
@@ -32,13 +32,13 @@ serve-frame-requires c =
 pub loop-frame-preserved : goal.loop-frame-preserved
 loop-frame-preserved c =
     let inv = c.loop-frame.invariant in
-    let served = c.serve-frame.ensures in (
+    let served = c.serve_frame.ensures in (
       λ G greedy.
           let old = inv.0 G greedy in (
-            lacks_less c.args.jobs.now c.args.count c.args.size G greedy c.loop-frame.frame c.loop-frame-test.true c.loop-frame.lacks c.serve-frame.new.lacks
+            lacks_less c.args.jobs.now c.args.count c.args.size G greedy c.loop-frame.frame c.loop-frame-test.true c.loop-frame.lacks c.serve_frame.new.lacks
                 old.0 served.served,
-            rows_of_one_more c.args.jobs.now c.args.count c.args.size G greedy c.loop-frame.frame c.loop-frame-test.true c.loop-frame.lacks c.serve-frame.new.lacks
-                old.0 served.served (vec_items c.loop-frame.rows) (vec_items c.serve-frame.new.rows) old.1 served.rows,
+            rows_of_one_more c.args.jobs.now c.args.count c.args.size G greedy c.loop-frame.frame c.loop-frame-test.true c.loop-frame.lacks c.serve_frame.new.lacks
+                old.0 served.served (vec_items c.loop-frame.rows) (vec_items c.serve_frame.new.rows) old.1 served.rows,
           ),
       omega (arith, inv.1, served.few),
       omega (arith, inv.2, served.capacity),
@@ -51,7 +51,7 @@ returns c =
     record {
       finishes = λ G greedy.
           finishes_or_not c.args.jobs.now (record { count = c.args.count; size = c.args.size }) G greedy c.loop-frame.lacks
-          (subst (λ t. Lacks c.args.jobs.now G t c.loop-frame.lacks) all (inv.0 G greedy).0) c.all-served.result c.all-served.ensures;
+          (subst (λ t. Lacks c.args.jobs.now G t c.loop-frame.lacks) all (inv.0 G greedy).0) c.all_served.result c.all_served.ensures;
       rows = λ G greedy.
           subst (λ t. RowsOf c.args.jobs.now (record { count = t; size = c.args.size }) G (vec_items c.loop-frame.rows)) all (inv.0 G greedy).1;
       few = omega (arith, c.requires.few, c.requires.frames, inv.1);

@@ -3,8 +3,8 @@ use Rattle.planning.proofs.Sums.{sum_more}
 use Rattle.planning.proofs.ListedJobs.{jobs_at_most}
 use Rattle.planning.proofs.windows.count_jobs.Goals as goal
 
-pub overflow-add-count : goal.overflow-add-count
-overflow-add-count c =
+pub overflow_add-count : goal.overflow_add-count
+overflow_add-count c =
     let period : ℕ → ℕ = λ t. get_or c.args.periods.now t 0 in
     omega (arith, jobs_at_most c.args.hyperperiod c.loop-task.task period c.requires.range.1, div-le_self c.args.hyperperiod (period c.loop-task.task))
 

@@ -9,13 +9,13 @@ use Rattle.planning.proofs.ListedJobs.{firsts_index, jobs_in_order, next_first_n
 use Rattle.planning.proofs.Sums.{sum_grows}
 use Rattle.planning.proofs.windows.list_jobs.Goals as goal
 
-pub overflow-cast-firsts : goal.overflow-cast-firsts
-overflow-cast-firsts c =
+pub overflow_cast-firsts : goal.overflow_cast-firsts
+overflow_cast-firsts c =
     let counts : ℕ → ℕ = λ t. c.args.hyperperiod / get_or c.args.periods.now t 0 in
     omega (arith, c.len.ensures, c.loop-task.invariant.1, c.requires.few, sum_grows c.loop-task.task c.args.tasks counts (omega arith))
 
-pub list-task-requires : goal.list-task-requires
-list-task-requires c =
+pub list_task-requires : goal.list_task-requires
+list_task-requires c =
     let counts : ℕ → ℕ = λ t. c.args.hyperperiod / get_or c.args.periods.now t 0 in
     let at_task = c.requires.periods c.loop-task.task c.loop-task-test.true in
     record {
@@ -30,12 +30,12 @@ loop-task-preserved c =
     let period : ℕ → ℕ = λ t. get_or c.args.periods.now t 0 in
     let counts : ℕ → ℕ = λ t. c.args.hyperperiod / period t in
     let inside : task < length c.loop-task.firsts = omega (arith, inv.3, c.requires.range.0, c.loop-task-test.true) in (
-      next_task_listed c.args.hyperperiod period (figures_at c.args.figures.now) task c.figures-of.result c.loop-task.jobs.items c.list-task.new.jobs.items
-          c.figures-of.ensures
+      next_task_listed c.args.hyperperiod period (figures_at c.args.figures.now) task c.figures_of.result c.loop-task.jobs.items c.list_task.new.jobs.items
+          c.figures_of.ensures
           inv.0
-          c.list-task.ensures.items,
-      omega (arith, c.list-task.ensures.len, inv.1, sum_more task counts),
-      omega (arith, c.list-task.ensures.capacity, inv.2),
+          c.list_task.ensures.items,
+      omega (arith, c.list_task.ensures.len, inv.1, sum_more task counts),
+      omega (arith, c.list_task.ensures.capacity, inv.2),
       length-set c.loop-task.firsts task c.len.result ∙ inv.3,
       next_first_noted c.loop-task.firsts task c.len.result counts inside (c.len.ensures ∙ inv.1) inv.4,
     )

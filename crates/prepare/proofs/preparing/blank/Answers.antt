@@ -7,6 +7,6 @@ use Rattle.prepare.proofs.preparing.blank.Goals as goal
 
 pub returns : goal.returns
 returns c =
-    IfOk-weaker c.planner-on.result _ _
+    IfOk-weaker c.planner_on.result _ _
     (λ p made. (made.0, made.1 ∙ ap (λ m. gridded 1 (beside m (lists_of c.new-2.result))) (no_tasks _ c.new.ensures.empty) ∙ ap (λ m. gridded 1 (beside (meaning_of []) m)) (no_tasks _ c.new-2.ensures.empty)))
-    c.planner-on.ensures
+    c.planner_on.ensures

@@ -4,14 +4,14 @@ use Rattle.printer.specs.Text.{period_lines}
 use Rattle.printer.proofs.LinesLength.{next_period_length}
 use Rattle.printer.proofs.measure.room_after_periods.Goals as goal
 
-pub returns-in-err-left : goal.returns-in-err-left
-returns-in-err-left c =
-    rw c.from-residual.ensures
-    (omega (arith, c.in-err-left.ensures, next_period_length c.args.periods.now c.loop-task.task c.loop-task-test.true))
+pub returns-in_err-left : goal.returns-in_err-left
+returns-in_err-left c =
+    rw c.from_residual.ensures
+    (omega (arith, c.in_err-left.ensures, next_period_length c.args.periods.now c.loop-task.task c.loop-task-test.true))
 
 pub loop-task-preserved : goal.loop-task-preserved
 loop-task-preserved c =
-    omega (arith, c.in-ok-left.ensures, next_period_length c.args.periods.now c.loop-task.task c.loop-task-test.true)
+    omega (arith, c.in_ok-left.ensures, next_period_length c.args.periods.now c.loop-task.task c.loop-task-test.true)
 
 pub returns : goal.returns
 returns c =

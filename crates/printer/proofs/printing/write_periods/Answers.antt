@@ -5,13 +5,13 @@ use Rattle.printer.proofs.LinesLength.{next_period_length}
 use Rattle.printer.proofs.Writing.{Writing, part_written, all_written}
 use Rattle.printer.proofs.printing.write_periods.Goals as goal
 
-pub write-line-at-requires : goal.write-line-at-requires
-write-line-at-requires c =
+pub write_line-at-requires : goal.write_line-at-requires
+write_line-at-requires c =
     let next = next_period_length c.args.periods.now c.loop-task.task c.loop-task-test.true in
     simp (length-take, length-drop) (omega arith)
 
-pub overflow-add-at : goal.overflow-add-at
-overflow-add-at c = omega (arith, next_period_length c.args.periods.now c.loop-task.task c.loop-task-test.true)
+pub overflow_add-at : goal.overflow_add-at
+overflow_add-at c = omega (arith, next_period_length c.args.periods.now c.loop-task.task c.loop-task-test.true)
 
 pub loop-task-preserved : goal.loop-task-preserved
 loop-task-preserved c =
@@ -19,9 +19,9 @@ loop-task-preserved c =
     let i = c.loop-task.task in
     let inside = c.loop-task-test.true in
     let out = c.args.out.now in (
-      part_written (period_lines 0 periods) _ _ out c.loop-task.out c.write-line-at.new.out c.loop-task.at c.write-line-at.result
+      part_written (period_lines 0 periods) _ _ out c.loop-task.out c.write_line-at.new.out c.loop-task.at c.write_line-at.result
           (subst (λ left. Writing (period_lines 0 periods) left out c.loop-task.out c.loop-task.at) (at_drop_more (period_lines i) periods i 0 inside) c.loop-task.invariant.0)
-          c.write-line-at.ensures.put,
+          c.write_line-at.ensures.put,
       omega (arith, next_period_length periods i inside),
     )
 

@@ -5,13 +5,13 @@ use Rattle.printer.proofs.LinesLength.{next_row_length}
 use Rattle.printer.proofs.Writing.{Writing, part_written, all_written}
 use Rattle.printer.proofs.printing.write_rows.Goals as goal
 
-pub write-line-at-requires : goal.write-line-at-requires
-write-line-at-requires c =
+pub write_line-at-requires : goal.write_line-at-requires
+write_line-at-requires c =
     let next = next_row_length c.args.rows.now c.loop-row.row-index (record { frame = 0; task = 0; job = 0; length = 0 }) c.loop-row-test.true in
     simp (length-take, length-drop) (omega arith)
 
-pub overflow-add-at : goal.overflow-add-at
-overflow-add-at c =
+pub overflow_add-at : goal.overflow_add-at
+overflow_add-at c =
     omega (arith, next_row_length c.args.rows.now c.loop-row.row-index (record { frame = 0; task = 0; job = 0; length = 0 }) c.loop-row-test.true)
 
 pub loop-row-preserved : goal.loop-row-preserved
@@ -20,9 +20,9 @@ loop-row-preserved c =
     let i = c.loop-row.row-index in
     let inside = c.loop-row-test.true in
     let out = c.args.out.now in (
-      part_written (slice_lines rows) _ _ out c.loop-row.out c.write-line-at.new.out c.loop-row.at c.write-line-at.result
+      part_written (slice_lines rows) _ _ out c.loop-row.out c.write_line-at.new.out c.loop-row.at c.write_line-at.result
           (subst (λ left. Writing (slice_lines rows) left out c.loop-row.out c.loop-row.at) (at_drop_more slice_lines rows i (record { frame = 0; task = 0; job = 0; length = 0 }) inside) c.loop-row.invariant.0)
-          c.write-line-at.ensures.put,
+          c.write_line-at.ensures.put,
       omega (arith, next_row_length rows i (record { frame = 0; task = 0; job = 0; length = 0 }) inside),
     )
 

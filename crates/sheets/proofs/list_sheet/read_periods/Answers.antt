@@ -10,15 +10,15 @@ use Rattle.sheets.specs.declared.fault.FieldFault.TheVariants.{Unreadable}
 use Rattle.sheets.proofs.NextNumber.{field_of_period, number_passed, number_refused}
 use Rattle.sheets.proofs.list_sheet.read_periods.Goals as goal
 
-pub returns-in-err-periods : goal.returns-in-err-periods
-returns-in-err-periods c =
+pub returns-in_err-periods : goal.returns-in_err-periods
+returns-in_err-periods c =
     let fields = fields_of c.args.line.bytes.now in
     let k = c.loop-k.k in
     let below : k < length (drop 4 fields) = simp length-drop (omega arith) in
-    let said = c.in-err-periods.ensures in
+    let said = c.in_err-periods.ensures in
     let other : is_number (field_at fields (5 + k)) ≡ false = cc in
-    let fault : c.in-err-periods.field-0.0 ≡ Unreadable c.args.line.number (5 + k) = cc in
-    let p = err_from_is_err_and c.from-residual.result c.from-residual.ensures.1 in
+    let fault : c.in_err-periods.field-0.0 ≡ Unreadable c.args.line.number (5 + k) = cc in
+    let p = err_from_is_err_and c.from_residual.result c.from_residual.ensures.1 in
     rw (p.1, p.2, fault) (λ rest. ap (on_line c.args.line.number) (c.loop-k.invariant.1 rest ∙ number_refused fields k below rest other))
 
 pub loop-k-preserved : goal.loop-k-preserved
@@ -26,10 +26,10 @@ loop-k-preserved c =
     let fields = fields_of c.args.line.bytes.now in
     let k = c.loop-k.k in
     let below : k < length (drop 4 fields) = simp length-drop (omega arith) in
-    let said = c.in-ok-periods.ensures in
+    let said = c.in_ok-periods.ensures in
     let here = field_of_period fields k in
     let number : is_number (field_at fields (5 + k)) ≡ true = cc in
-    let written = take_more_set c.loop-k.periods k c.in-ok-periods.field-0 (search rules) in
+    let written = take_more_set c.loop-k.periods k c.in_ok-periods.field-0 (search rules) in
     let told = map_more value (drop 4 fields) k [] below in
     ((cc), (λ rest. c.loop-k.invariant.1 rest ∙ number_passed fields k below rest number))
 

@@ -9,13 +9,13 @@ use Rattle.std.proofs.lemmas.Bool.Decides.{Decides-eqb}
 
 pub returns-then-eq : goal.returns-then-eq
 returns-then-eq c =
-    let same = (slice_eq-Decides Decides-eqb c.name-on.result.now c.args.name.now c.eq.result c.eq.ensures).0 c.if-eq.true in
-    sym (taken_at c.args.name.now (parts 10 c.args.sheet.now) c.args.lines c.loop-before.before (search rules) c.requires (sym c.name-on.ensures ∙ same))
+    let same = (slice_eq-Decides Decides-eqb c.name_on.result.now c.args.name.now c.eq.result c.eq.ensures).0 c.if-eq.true in
+    sym (taken_at c.args.name.now (parts 10 c.args.sheet.now) c.args.lines c.loop-before.before (search rules) c.requires (sym c.name_on.ensures ∙ same))
 
 pub loop-before-preserved : goal.loop-before-preserved
 loop-before-preserved c =
     below_more (λ k. name_in (get_or (parts 10 c.args.sheet.now) k []) ≡ c.args.name.now → ⊥) c.loop-before.before c.loop-before.invariant
-    (λ same. both_ways c.eq.result c.if-eq.false ((slice_eq-Decides Decides-eqb c.name-on.result.now c.args.name.now c.eq.result c.eq.ensures).1 (c.name-on.ensures ∙ same)))
+    (λ same. both_ways c.eq.result c.if-eq.false ((slice_eq-Decides Decides-eqb c.name_on.result.now c.args.name.now c.eq.result c.eq.ensures).1 (c.name_on.ensures ∙ same)))
 
 pub returns : goal.returns
 returns c = sym (not_taken c.args.name.now (parts 10 c.args.sheet.now) c.args.lines (λ k h. c.loop-before.invariant k (search rules)))

@@ -9,12 +9,12 @@ pub returns-then-byte-lt48 : goal.returns-then-byte-lt48
 returns-then-byte-lt48 c =
     no_digit c.args.bytes.now c.loop-byte.byte-index (search rules) (λ digit. elim c.then-byte-lt48.branch [ then-byte-lt48-via-then-byte-lt48 w ↦ omega arith | then-byte-lt48-via-else-byte-lt48+then-byte-gt57 w ↦ omega arith ])
 
-pub overflow-mul-number : goal.overflow-mul-number
-overflow-mul-number c =
+pub overflow_mul-number : goal.overflow_mul-number
+overflow_mul-number c =
     omega (arith, few_small c.args.bytes.now c.loop-byte.byte-index (search rules) c.loop-byte.invariant.0 (search rules))
 
-pub overflow-add-number : goal.overflow-add-number
-overflow-add-number c =
+pub overflow_add-number : goal.overflow_add-number
+overflow_add-number c =
     omega (arith, few_small c.args.bytes.now c.loop-byte.byte-index (search rules) c.loop-byte.invariant.0 (search rules))
 
 pub loop-byte-preserved : goal.loop-byte-preserved

@@ -16,10 +16,10 @@ pub returns-then-eq : goal.returns-then-eq
 returns-then-eq c =
     let same = same_from_matches c.bytes.result.now (codes "class") c.eq.result c.eq.ensures in
     let class : is_class (word_in c.args.line.bytes.now) ≡ true = cc in
-    by_word (fields_of c.args.line.bytes.now) c.args.line.number _ true class c.class-entry.ensures
+    by_word (fields_of c.args.line.bytes.now) c.args.line.number _ true class c.class_entry.ensures
 
 pub returns-else-eq : goal.returns-else-eq
 returns-else-eq c =
     let same = same_from_matches c.bytes.result.now (codes "class") c.eq.result c.eq.ensures in
     let range : is_class (word_in c.args.line.bytes.now) ≡ false = cc in
-    by_word (fields_of c.args.line.bytes.now) c.args.line.number _ false range c.range-entry.ensures
+    by_word (fields_of c.args.line.bytes.now) c.args.line.number _ false range c.range_entry.ensures

@@ -16,6 +16,6 @@ returns g c =
       answer =
           c.enter.ensures.answer
           ∙ ap (λ k. on_line (c.args.before + 1) (first_no (layout.entry (fields_of line) k))) c.requires.counted
-          ∙ entry_left layout (parts 10 c.args.sheet.now) c.args.before line c.part.ensures (omega (arith, c.requires.there)) word count c.in-ok-check-name.ensures;
+          ∙ entry_left layout (parts 10 c.args.sheet.now) c.args.before line c.part.ensures (omega (arith, c.requires.there)) word count c.in_ok-check_name.ensures;
       after = search rules;
     }

@@ -6,8 +6,8 @@ use Rattle.books.specs.Questions.{first_no, period_questions}
 use Rattle.books.proofs.NextQuestion.{periods_from}
 use Rattle.books.proofs.list_book.entry.check_numbers.Goals as goal
 
-pub returns-then-not-is-period : goal.returns-then-not-is-period
-returns-then-not-is-period c =
+pub returns-then-not-is_period : goal.returns-then-not-is_period
+returns-then-not-is_period c =
     let no' : is_a_period (get_or c.args.periods.now c.loop-k.k 0) ≡ false = search rules in
     record { answer = sym (periods_from c.args.periods.now c.loop-k.k (search rules) ∙ cond-false _ _ _ no') ∙ c.loop-k.invariant }
 

@@ -3,8 +3,8 @@ use Rattle.std.proofs.lemmas.List.{length-take, nil_from_length}
 use Rattle.orders.proofs.Taken.{taken_held, taken_least, taken_rest, taken_length, taken_room, taken_sound}
 use Rattle.orders.proofs.heap.Heap.take.Goals as goal
 
-pub slice-bounds-retire-first-end : goal.slice-bounds-retire-first-end
-slice-bounds-retire-first-end g c =
+pub slice_bounds-retire_first-end : goal.slice_bounds-retire_first-end
+slice_bounds-retire_first-end g c =
     let count = c.len-count.ensures ∙ length-take c.args.self.now.len c.args.self.now.slots.now in
     omega arith
 
@@ -24,14 +24,14 @@ returns-then-count-eq0 g c =
 pub returns : goal.returns
 returns g c =
     let xs = c.args.self.now.slots.now in
-    let ys = c.retire-first-first.new.s in
-    let r = c.retire-first-first.result in
+    let ys = c.retire_first-first.new.s in
+    let r = c.retire_first-first.result in
     let len = c.args.self.now.len in
     let n = c.len-count.result in
     let count = c.len-count.ensures ∙ length-take len xs in
     let some : 0 < n = omega arith in
-    let kept = c.retire-first-first.auto.s in
-    let told = c.retire-first-first.ensures in
+    let kept = c.retire_first-first.auto.s in
+    let told = c.retire_first-first.ensures in
     record {
       held = taken_held xs ys r len (n - 0) n count some (omega arith) kept told.shuffled;
       least = taken_least xs ys r len (n - 0) n count some (omega arith) kept g.T.Ranked.le told.least;

@@ -24,4 +24,4 @@ returns-in-Some g c =
 
 pub returns-in-None : goal.returns-in-None
 returns-in-None g c =
-    frame_ended g.B.Book.means c.args.self.now c.end-frame.new.self c.end-frame.result c.end-frame.ensures c.if-not-self.false c.if-self-ge-REPETITIONS.false (sym c.in-None.ensures)
+    frame_ended g.B.Book.means c.args.self.now c.end_frame.new.self c.end_frame.result c.end_frame.ensures c.if-not-self.false c.if-self-ge-REPETITIONS.false (sym c.in-None.ensures)

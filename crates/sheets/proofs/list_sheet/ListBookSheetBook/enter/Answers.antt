@@ -10,41 +10,41 @@ use Rattle.sheets.proofs.RoomLeft.{room_of_list}
 use Rattle.sheets.proofs.list_sheet.ListBookSheetBook.enter.Goals as goal
 use Rattle.sheets.proofs.list_sheet.ListBookSheetBook.enter.Goals.{In-ok-count}
 
-pub returns-in-err-count : goal.returns-in-err-count
-returns-in-err-count c =
+pub returns-in_err-count : goal.returns-in_err-count
+returns-in_err-count c =
     let fields = fields_of c.args.line.bytes.now in
     let used = c.args.self.now.used in
-    let said = c.in-ok-cost.ensures in
-    let next = c.in-ok-deadline.ensures in
+    let said = c.in_ok-cost.ensures in
+    let next = c.in_ok-deadline.ensures in
     let cost : is_number (field_at fields 3) ≡ true = cc in
     let deadline : is_number (field_at fields 4) ≡ true = cc in
-    let p = err_from_is_err_and c.from-residual-in-err-count.result c.from-residual-in-err-count.ensures.1 in
+    let p = err_from_is_err_and c.from_residual-in_err-count.result c.from_residual-in_err-count.ensures.1 in
     rw (p.1, p.2) (record {
-      answer = sym (ap (on_line c.args.line.number) (figures_passed fields used cost deadline) ∙ c.in-err-count.ensures (list_questions (periods_in fields) used));
+      answer = sym (ap (on_line c.args.line.number) (figures_passed fields used cost deadline) ∙ c.in_err-count.ensures (list_questions (periods_in fields) used));
       after = refl;
     })
 
 -- the periods that were read, and that what the book asks of them decides
 abbrev periods : In-ok-count → List ℕ
-periods c = take c.in-ok-count.count c.read-periods.new.periods
+periods c = take c.in_ok-count.count c.read_periods.new.periods
 
 book_decides : (c : In-ok-count) → first_no (list_entry (fields_of c.args.line.bytes.now) c.args.self.now.used) ≡ first_no (list_questions (periods c) c.args.self.now.used)
 book_decides c =
-    let said = c.in-ok-cost.ensures in
-    let next = c.in-ok-deadline.ensures in
-    let read = c.in-ok-count.ensures in
+    let said = c.in_ok-cost.ensures in
+    let next = c.in_ok-deadline.ensures in
+    let read = c.in_ok-count.ensures in
     periods_passed (fields_of c.args.line.bytes.now) c.args.self.now.used (cc) (cc) (periods c) read.1 read.2
 
 pub returns-in-Ok : goal.returns-in-Ok
 returns-in-Ok c =
     let read = (goal.at.returns-in-Ok c).In-ok-count in
-    let said = c.in-ok-cost.ensures in
-    let next = c.in-ok-deadline.ensures in
+    let said = c.in_ok-cost.ensures in
+    let next = c.in_ok-deadline.ensures in
     let asked = c.in-Ok.ensures.answer in
     record {
       answer = sym (ap (on_line c.args.line.number) (book_decides read ∙ sym asked));
       after = record {
-        added = rw c.in-ok-count.ensures.1 at c.in-Ok.ensures.after;
+        added = rw c.in_ok-count.ensures.1 at c.in-Ok.ensures.after;
         room = room_of_list (periods read) c.args.self.now.used (sym asked);
         figured = cc;
       };

@@ -5,8 +5,8 @@ use Rattle.sheets.proofs.range_sheet.RangeBookSheetBook.enter.Goals as goal
 
 pub returns-in-Ok : goal.returns-in-Ok
 returns-in-Ok c =
-    let read = c.in-ok-entry.ensures in
-    let entry = c.in-ok-entry.entry in
+    let read = c.in_ok-entry.ensures in
+    let entry = c.in_ok-entry.entry in
     let used = c.args.self.now.used in
     let passed = sym c.in-Ok.ensures.answer in
     record {

@@ -9,8 +9,8 @@ use Rattle.books.proofs.list_book.calls.ListBookBook.next_allowed.Goals as goal
 pub returns-then-task-self : goal.returns-then-task-self
 returns-then-task-self c = record { least = search rules; fair = lists_fair c.args.self.now }
 
-pub next-from-requires : goal.next-from-requires
-next-from-requires c = record {
+pub next_from-requires : goal.next_from-requires
+next_from-requires c = record {
   counted = c.args.self.now.counted c.args.task (search rules);
   rising = c.args.self.now.rising c.args.task;
 }
@@ -19,6 +19,6 @@ pub returns : goal.returns
 returns c =
     let row = get_or c.args.self.now.rows c.args.task (record { periods = []; len = 0 }) in
     record {
-      least = subst (λ known. LeastFrom (λ p. known && is_among (periods_of row) p) c.args.from c.next-from.result) (sym (lt-ltb c.args.task c.args.self.now.used (search rules))) c.next-from.ensures.least;
+      least = subst (λ known. LeastFrom (λ p. known && is_among (periods_of row) p) c.args.from c.next_from.result) (sym (lt-ltb c.args.task c.args.self.now.used (search rules))) c.next_from.ensures.least;
       fair = lists_fair c.args.self.now;
     }
