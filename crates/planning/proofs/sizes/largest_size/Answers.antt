@@ -7,7 +7,7 @@ use Rattle.planning.specs.Windows.{placed}
 use Rattle.planning.specs.declared.job.Job.{Job}
 use Rattle.planning.proofs.FrameSizes.{Tried, every_size_overloaded, largest_size, one_more_tried, pair_quotient, tried_more}
 use Rattle.planning.proofs.sizes.largest_size.Goals as goal
-use Rattle.planning.proofs.sizes.largest_size.Goals.{then-hyperperiod-count-eq0+else-write-table, else-hyperperiod-count-eq0}
+use Rattle.planning.proofs.sizes.largest_size.Goals.{then-hyperperiod-count-eq0+else-write_table, else-hyperperiod-count-eq0}
 
 pub returns-then-write_table : goal.returns-then-write_table
 returns-then-write_table c =
@@ -40,7 +40,7 @@ loop-count-preserved c =
     let jobs : List Job = vec_items c.args.space.now.jobs in
     let fr : Frames = record { count = count; size = h / count } in
     elim c.if-hyperperiod-count-eq0.branch [
-      | then-hyperperiod-count-eq0+else-write-table w ↦
+      | then-hyperperiod-count-eq0+else-write_table w ↦
           let same : w.deref.result.now ≡ jobs = w.deref.ensures.value ∙ ap vec_items inv.0 in
           let fails : (G : Gifts) → IsGreedy (placed jobs) fr G → Unfinished (placed jobs) fr G =
           subst (λ l. (G : Gifts) → IsGreedy (placed l) fr G → Unfinished (placed l) fr G) same w.if-write_table.ensures.finishes

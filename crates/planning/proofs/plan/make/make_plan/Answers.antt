@@ -21,7 +21,7 @@ returns-then-jobs-gt1024 g c =
     let m : Meaning = g.B.Book.means c.args.book.now in
     let h = c.in_ok-hyperperiod.hyperperiod in
     let period : ℕ → ℕ = λ t. get_or c.chosen_periods-periods.result t 0 in
-    let jobs : c.count_jobs-jobs.result ≡ jobs_in h period m.count = c.count_jobs-jobs.ensures ∙ ap (jobs_in h period) c.count_tasks.ensures.value in (
+    let jobs : c.count_jobs-jobs.result ≡ jobs_in h period m.count = c.count_jobs-jobs.ensures ∙ ap (jobs_in h period) c.count-tasks.ensures.value in (
       inr (inr (inr (inl (
         refl,
         refl,
@@ -41,7 +41,7 @@ returns-in_default g c =
     let figures : List (Option Figures) = c.args.figures.now in
     let h = c.in_ok-hyperperiod.hyperperiod in
     let period : ℕ → ℕ = λ t. get_or c.chosen_periods-periods.result t 0 in
-    let count = c.count_tasks.ensures.value in
+    let count = c.count-tasks.ensures.value in
     let jobs : c.count_jobs-jobs.result ≡ jobs_in h period m.count = c.count_jobs-jobs.ensures ∙ ap (jobs_in h period) count in
     let listed : vec_items c.list_jobs.new.jobs ≡ book_jobs m figures h period = c.list_jobs.ensures.jobs ∙ ap (jobs_of h period (figures_at figures)) count in (
       inr (inr (inr (inr (
@@ -64,15 +64,15 @@ returns g c =
     let figures : List (Option Figures) = c.args.figures.now in
     let h = c.in_ok-hyperperiod.hyperperiod in
     let period : ℕ → ℕ = λ t. get_or c.chosen_periods-periods.result t 0 in
-    let count = c.count_tasks.ensures.value in
+    let count = c.count-tasks.ensures.value in
     let jobs : c.count_jobs-jobs.result ≡ jobs_in h period m.count = c.count_jobs-jobs.ensures ∙ ap (jobs_in h period) count in
     let listed : vec_items c.list_jobs.new.jobs ≡ book_jobs m figures h period = c.list_jobs.ensures.jobs ∙ ap (jobs_of h period (figures_at figures)) count in
     let found = subst (λ l. SizeFound l h (vec_items c.largest_size.new.space.rows) (Some c.in-Some.frame_size)) listed c.in-Some.ensures.found in
-    let swapped : vec_items c.swap.new.x ≡ vec_items c.largest_size.new.space.rows = ap vec_items c.swap.ensures.x-after in
+    let swapped : vec_items c.swap.new.x ≡ vec_items c.largest_size.new.space.rows = ap vec_items c.swap.ensures.x_after in
     record {
       tasks = count;
       prepared = prepares m figures c.args.ceiling h period c.in_ok-hyperperiod.ensures c.chosen_periods-periods.ensures.chosen;
-      work = chosen_least_work m c.count_tasks.ensures.fair h (figures_at figures) period c.chosen_periods-periods.ensures.chosen;
+      work = chosen_least_work m c.count-tasks.ensures.fair h (figures_at figures) period c.chosen_periods-periods.ensures.chosen;
       jobs = jobs;
       few = c.if-jobs-gt1024.false;
       size = found.0;
