@@ -70,7 +70,7 @@ fn answer_sheets(rt: &HostRuntime, sheets: Sheets, text: &mut [u8]) -> anyhow::R
     let micros = start.elapsed(rt)?.as_micros();
     match answered {
         Ok(len) => {
-            print!(rt, "{name}: {len} bytes, ")?;
+            print!(rt; "{name}: {len} bytes, ")?;
             rt.stdout().write_all(first_line(text))?;
         }
         Err(refusal) => {

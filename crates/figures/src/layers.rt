@@ -34,13 +34,13 @@ pub(crate) fn try_all(rt: &HostRuntime, space: &mut Workspace, plan: &mut Plan) 
 
 fn two_ranges(rt: &HostRuntime, space: &mut Workspace, plan: &mut Plan) -> io::Result<()> {
     let mut figures = Vec::new(rt.alloc());
-    print!(rt, "Two ranges:")?;
+    print!(rt; "Two ranges:")?;
     let book = ranges(rt, &TWO, &mut figures)?;
     println!(rt; "")?;
     answer::whole(rt, &book, &figures, 1_000_000, space, plan)?;
-    print!(rt, "Under a ceiling of 23: ")?;
+    print!(rt; "Under a ceiling of 23: ")?;
     answer::line(rt, &book, &figures, 23, space, plan)?;
-    print!(rt, "Without figures for task 1: ")?;
+    print!(rt; "Without figures for task 1: ")?;
     figures.pop();
     answer::line(rt, &book, &figures, 1_000_000, space, plan)?;
     Ok(())
@@ -48,7 +48,7 @@ fn two_ranges(rt: &HostRuntime, space: &mut Workspace, plan: &mut Plan) -> io::R
 
 fn list_beside_range(rt: &HostRuntime, space: &mut Workspace, plan: &mut Plan) -> io::Result<()> {
     let mut figures = Vec::new(rt.alloc());
-    print!(rt, "A list beside a range:")?;
+    print!(rt; "A list beside a range:")?;
     let listed = lists(rt, &LISTED, &mut figures)?;
     let beside = ranges(rt, &BESIDE, &mut figures)?;
     println!(rt; "")?;
@@ -58,7 +58,7 @@ fn list_beside_range(rt: &HostRuntime, space: &mut Workspace, plan: &mut Plan) -
 
 fn off_the_grid(rt: &HostRuntime, space: &mut Workspace, plan: &mut Plan) -> io::Result<()> {
     let mut figures = Vec::new(rt.alloc());
-    print!(rt, "A range off the grid of 5:")?;
+    print!(rt; "A range off the grid of 5:")?;
     let off = ranges(rt, &OFF, &mut figures)?;
     println!(rt; "")?;
     let book = Grid::new(off, 5);
@@ -67,7 +67,7 @@ fn off_the_grid(rt: &HostRuntime, space: &mut Workspace, plan: &mut Plan) -> io:
 
 fn example(rt: &HostRuntime, space: &mut Workspace, plan: &mut Plan) -> io::Result<()> {
     let mut figures = Vec::new(rt.alloc());
-    print!(rt, "Ranges beside a list, on a grid of 1:")?;
+    print!(rt; "Ranges beside a list, on a grid of 1:")?;
     let first = ranges(rt, &EXAMPLE, &mut figures)?;
     let second = lists(rt, &EXAMPLE_LISTED, &mut figures)?;
     println!(rt; "")?;
@@ -84,7 +84,7 @@ fn ranges(
     let mut book = RangeBook::new();
     for task in tasks {
         let (low, high, cost, deadline) = *task;
-        print!(rt, " ({low}-{high},{cost},{deadline})")?;
+        print!(rt; " ({low}-{high},{cost},{deadline})")?;
         let _ = book.add(low, high);
         figures.push(Some(Figures { cost, deadline }))?;
     }
@@ -100,7 +100,7 @@ fn lists(
     let mut book = ListBook::new();
     for task in tasks {
         let (periods, cost, deadline) = *task;
-        print!(rt, " ({periods:?},{cost},{deadline})")?;
+        print!(rt; " ({periods:?},{cost},{deadline})")?;
         let _ = book.add(periods);
         figures.push(Some(Figures { cost, deadline }))?;
     }

@@ -37,7 +37,7 @@ fn try_set(
 ) -> io::Result<()> {
     let mut figures = Vec::new(rt.alloc());
     let book = enter(rt, tasks, &mut figures)?;
-    print!(rt, ": ")?;
+    print!(rt; ": ")?;
     answer::line(rt, &book, &figures, 1_000_000, space, plan)?;
     Ok(())
 }
@@ -52,7 +52,7 @@ fn enter(
     let mut gap = "";
     for task in tasks {
         let (period, cost, deadline) = *task;
-        print!(rt, "{gap}({period},{cost},{deadline})")?;
+        print!(rt; "{gap}({period},{cost},{deadline})")?;
         gap = " ";
         let _ = book.add(&[period]);
         figures.push(Some(Figures { cost, deadline }))?;

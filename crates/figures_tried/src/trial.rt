@@ -26,10 +26,10 @@ pub(crate) fn try_figure(
 
 // Prints what was found, and whether it is the stored answer.
 pub(crate) fn compare(rt: &HostRuntime, found: &[u8], stored: &[u8]) -> io::Result<bool> {
-    print!(rt, "found: ")?;
+    print!(rt; "found: ")?;
     rt.stdout().write_all(found)?;
     if found != stored {
-        print!(rt, "NOT as stored: ")?;
+        print!(rt; "NOT as stored: ")?;
         rt.stdout().write_all(stored)?;
         return Ok(false);
     }

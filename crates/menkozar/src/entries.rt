@@ -77,9 +77,9 @@ fn list_line(rt: &HostRuntime, task: &ListTask) -> io::Result<()> {
     let name = task.name;
     let cost = task.figures.cost;
     let deadline = task.figures.deadline;
-    print!(rt, "list,{name},{cost},{deadline}")?;
+    print!(rt; "list,{name},{cost},{deadline}")?;
     for period in task.periods {
-        print!(rt, ",{period}")?;
+        print!(rt; ",{period}")?;
     }
     println!(rt; "")
 }

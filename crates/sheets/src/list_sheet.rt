@@ -35,7 +35,7 @@ impl SheetBook for ListBook {
     }
 
     fn is_word(word: &[u8]) -> bool {
-        word == b"list"
+        word == b"list".as_slice()
     }
 
     fn is_count(word: &[u8], count: usize) -> bool {

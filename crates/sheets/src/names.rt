@@ -5,7 +5,7 @@ ghost use Rattle.std.specs.Option.{option_map};
 ghost use Rattle.sheets.specs.Lines.{name_in};
 ghost use Rattle.sheets.specs.Reads.{name_found};
 ghost use Rattle.sheets.specs.Steps.{NameRead};
-ghost use Rattle.sheets.specs.Sheets.{is_a_name as isNameOf, is_a_name_byte, is_taken as isTakenBy};
+ghost use Rattle.sheets.specs.Sheets.{is_a_name, is_a_name_byte, is_taken as is_taken_by};
 ghost use Rattle.sheets.specs.Text.{parts};
 
 use crate::fault::FieldFault;
@@ -16,7 +16,7 @@ use books::Book;
 
 // Whether the bytes are a name.
 fn is_name(bytes: &[u8]) -> bool
-    ensures { result ≡ isNameOf bytes.now }
+    ensures { result ≡ is_a_name bytes.now }
 {
     if bytes.is_empty() || bytes.len() > 16 {
         return false;
@@ -42,7 +42,7 @@ fn is_name_byte(byte: u8) -> bool
 // Whether the name stands on one of the first lines of the sheet.
 fn is_taken(sheet: &[u8], lines: usize, name: &[u8]) -> bool
     requires { lines ≤ length (parts 10 sheet.now) }
-    ensures { result ≡ isTakenBy name.now (map name_in (take lines (parts 10 sheet.now))) }
+    ensures { result ≡ is_taken_by name.now (map name_in (take lines (parts 10 sheet.now))) }
 {
     for before in 0..lines {
         if name_on(sheet, before) == name {

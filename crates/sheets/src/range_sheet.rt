@@ -51,7 +51,7 @@ fn range_entry(line: Line<'_>) -> Result<RangeEntry, FieldFault>
 fn read_entry(line: Line<'_>) -> Result<RangeEntry, FieldFault>
     ensures { RangeRead (range_layout.entry (fields_of line.entry.bytes.now)) (range_layout.task (fields_of line.entry.bytes.now)) line.entry.number result }
 {
-    if line.field(1).bytes() == b"class" {
+    if line.field(1).bytes() == b"class".as_slice() {
         class_entry(line)
     } else {
         range_entry(line)
@@ -66,11 +66,11 @@ impl SheetBook for RangeBook {
     }
 
     fn is_word(word: &[u8]) -> bool {
-        word == b"class" || word == b"range"
+        word == b"class".as_slice() || word == b"range".as_slice()
     }
 
     fn is_count(word: &[u8], count: usize) -> bool {
-        if word == b"class" {
+        if word == b"class".as_slice() {
             count == 5
         } else {
             count == 6
