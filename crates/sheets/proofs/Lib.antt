@@ -11,6 +11,5 @@ mod NumbersStand
 mod PartsStand
 mod ReadSoFar
 mod RoomLeft
-mod SameBytes
 mod SheetLines
 mod TakenNames

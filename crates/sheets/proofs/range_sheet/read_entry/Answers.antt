@@ -4,7 +4,6 @@ use Rattle.sheets.specs.Lines.{field_at, fields_of, word_in}
 use Rattle.sheets.specs.Steps.{RangeRead}
 use Rattle.sheets.specs.declared.fault.FieldFault.{FieldFault}
 use Rattle.sheets.specs.declared.range_sheet.RangeEntry.{RangeEntry}
-use Rattle.sheets.proofs.SameBytes.{same_from_matches}
 use Rattle.sheets.proofs.range_sheet.read_entry.Goals as goal
 
 -- The word says which way a line is read.
@@ -14,12 +13,12 @@ by_word fields line r class h read =
 
 pub returns-then-eq : goal.returns-then-eq
 returns-then-eq c =
-    let same = same_from_matches c.bytes.result.now (codes "class") c.eq.result c.eq.ensures in
+    let same = c.eq.ensures in
     let class : is_class (word_in c.args.line.bytes.now) ≡ true = cc in
     by_word (fields_of c.args.line.bytes.now) c.args.line.number _ true class c.class_entry.ensures
 
 pub returns-else-eq : goal.returns-else-eq
 returns-else-eq c =
-    let same = same_from_matches c.bytes.result.now (codes "class") c.eq.result c.eq.ensures in
+    let same = c.eq.ensures in
     let range : is_class (word_in c.args.line.bytes.now) ≡ false = cc in
     by_word (fields_of c.args.line.bytes.now) c.args.line.number _ false range c.range_entry.ensures

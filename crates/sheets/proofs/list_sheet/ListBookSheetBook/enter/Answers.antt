@@ -8,7 +8,7 @@ use Rattle.sheets.specs.Sheets.{on_line}
 use Rattle.sheets.proofs.NextNumber.{figures_passed, periods_passed}
 use Rattle.sheets.proofs.RoomLeft.{room_of_list}
 use Rattle.sheets.proofs.list_sheet.ListBookSheetBook.enter.Goals as goal
-use Rattle.sheets.proofs.list_sheet.ListBookSheetBook.enter.Goals.{In-ok-count}
+use Rattle.sheets.proofs.list_sheet.ListBookSheetBook.enter.Goals.{In_ok-count}
 
 pub returns-in_err-count : goal.returns-in_err-count
 returns-in_err-count c =
@@ -25,10 +25,10 @@ returns-in_err-count c =
     })
 
 -- the periods that were read, and that what the book asks of them decides
-abbrev periods : In-ok-count → List ℕ
+abbrev periods : In_ok-count → List ℕ
 periods c = take c.in_ok-count.count c.read_periods.new.periods
 
-book_decides : (c : In-ok-count) → first_no (list_entry (fields_of c.args.line.bytes.now) c.args.self.now.used) ≡ first_no (list_questions (periods c) c.args.self.now.used)
+book_decides : (c : In_ok-count) → first_no (list_entry (fields_of c.args.line.bytes.now) c.args.self.now.used) ≡ first_no (list_questions (periods c) c.args.self.now.used)
 book_decides c =
     let said = c.in_ok-cost.ensures in
     let next = c.in_ok-deadline.ensures in
@@ -37,7 +37,7 @@ book_decides c =
 
 pub returns-in-Ok : goal.returns-in-Ok
 returns-in-Ok c =
-    let read = (goal.at.returns-in-Ok c).In-ok-count in
+    let read = (goal.at.returns-in-Ok c).In_ok-count in
     let said = c.in_ok-cost.ensures in
     let next = c.in_ok-deadline.ensures in
     let asked = c.in-Ok.ensures.answer in
@@ -53,6 +53,6 @@ returns-in-Ok c =
 pub returns-in-Err : goal.returns-in-Err
 returns-in-Err c =
     record {
-      answer = sym (ap (on_line c.args.line.number) (book_decides (goal.at.returns-in-Err c).In-ok-count ∙ sym c.in-Err.ensures.answer));
+      answer = sym (ap (on_line c.args.line.number) (book_decides (goal.at.returns-in-Err c).In_ok-count ∙ sym c.in-Err.ensures.answer));
       after = c.in-Err.ensures.after;
     }
