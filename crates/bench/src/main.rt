@@ -1,5 +1,6 @@
 // Demanding searches: what each finds goes to standard output, and how long it took to standard
 // error.
+#![tactic(auto)]
 
 use books::{Book, EntryFault, Grid, ListBook, RangeBook, SideBySide};
 use planning::seek;

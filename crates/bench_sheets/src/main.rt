@@ -1,12 +1,13 @@
 // Demanding searches and large sheets: what each gives goes to standard output, and how long it took to
 // standard error.
+#![tactic(auto)]
 
 mod entered;
-mod sheets;
+mod measured;
 mod table;
 
 use crate::entered::{grids, on_sheets, ranges};
-use crate::sheets::{SHEETS, Sheets};
+use crate::measured::{SHEETS, Sheets};
 use books::{Book, SideBySide};
 use console::answer;
 use planning::seek;

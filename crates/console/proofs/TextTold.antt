@@ -14,7 +14,7 @@ use Rattle.prepare.specs.declared.fault.PrepareFault.{PrepareFault}
 use Rattle.printer.specs.Printed.{PlanPrinted, TextOf, Written}
 use Rattle.printer.specs.Text.{refused_line}
 use Rattle.printer.specs.declared.refusal.PrintRefusal.{PrintRefusal}
-use Rattle.console.specs.Answers.{FaultTold, PlanTold, Told}
+use Rattle.console.specs.Answers.{Told}
 
 -- A planner that is ready prints the text of the plan that the two sheets get.
 pub plan_told : (ranges lists : List ℕ) (step ceiling : ℕ) (granted : Granted) (p : Planner (Grid (SideBySide RangeBook ListBook))) (before after : List ℕ) (answer : Result ℕ PrintRefusal)

@@ -1,5 +1,6 @@
 // From two sheets to the text that they are answered with, in one call. What is promised starts in
 // specs/Answers.antt.
+#![tactic(auto)]
 
 ghost use Rattle.console.specs.Answers.{Answered};
 

@@ -1,5 +1,6 @@
 // Damaged sheets: each pair is answered, and the answer printed below the pair's name. At the end stand
 // the names of the tasks of two sheets in order.
+#![tactic(auto)]
 
 mod cases;
 

@@ -1,4 +1,5 @@
 // Worked figures: each is planned in the same memory, and what comes is printed.
+#![tactic(auto)]
 
 mod answer;
 mod layers;

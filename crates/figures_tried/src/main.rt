@@ -1,4 +1,5 @@
 // Worked figures: each is tried in the same memory, and what is found is held to the stored answer.
+#![tactic(auto)]
 
 mod figure;
 mod found;

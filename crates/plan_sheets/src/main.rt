@@ -1,5 +1,6 @@
 // The frame planner's program: reads the range sheet and the list sheet in its folder, plans their tasks,
 // and prints the plan or the refusal. A missing sheet is an empty one.
+#![tactic(auto)]
 
 use console::answer;
 use std::fs::File;

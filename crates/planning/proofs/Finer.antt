@@ -1,5 +1,5 @@
-use Rattle.std.proofs.Common.{◌≡◌, ℕ, zero, suc, ◌+◌, ◌-◌, ◌*◌, ◌<◌, ◌≤◌, min, max, true, leb, sym, ap, ◌∙◌, ⊎_elim, mul-le-mul_right, mul_assoc, lt_of_mul-lt-mul_right, arith}
-use Rattle.std.proofs.lemmas.Bool.{and_from, and_parts, cases_lt, le-leb, leb-true}
+use Rattle.std.proofs.Common.{◌≡◌, ℕ, zero, suc, ◌+◌, ◌-◌, ◌*◌, ◌<◌, ◌≤◌, min, max, true, leb, sym, ap, ◌∙◌, mul-le-mul_right, mul_assoc, lt_of_mul-lt-mul_right, arith}
+use Rattle.std.proofs.lemmas.Bool.{and_from, and_parts, le-leb, leb-true}
 use Rattle.planning.specs.Placing.{Sum, Jobs, Frames, Gifts, is_open, given, Fills, finer}
 use Rattle.planning.specs.Theorems.{DivisorsFill}
 use Rattle.planning.proofs.Sums.{some_term, sum_at_most, sum_same, sum_swapped, sum_grows}

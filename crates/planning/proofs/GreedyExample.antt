@@ -1,4 +1,4 @@
-use Rattle.std.proofs.Common.{◌≡◌, ℕ, ◌-◌, ◌<◌, min, true, cond, eqb, [], ◌∷◌, get_or, Decides, refl, arith}
+use Rattle.std.proofs.Common.{◌≡◌, ℕ, ◌<◌, true, eqb, [], ◌∷◌, get_or, Decides, refl, arith}
 use Rattle.std.proofs.lemmas.Bool.Decides.{Decides-eqb, Decides-below_and}
 use Rattle.planning.specs.Placing.{every, Jobs, Frames, Gifts, greedy_gift, IsGreedy, load, Overloaded}
 

@@ -1,8 +1,8 @@
-use Rattle.std.proofs.Common.{◌≡◌, ℕ, ◌-◌, ◌<◌, ◌≤◌, Bool, true, false, cond, eqb, ltb, leb, List, [], ◌∷◌, length, get_or, take, Some, None, MatchBool, sum_by, sym, refl, ap, ◌∙◌, subst, ⊎_elim, arith, length-take, get_or-take}
+use Rattle.std.proofs.Common.{◌≡◌, ℕ, ◌-◌, ◌<◌, ◌≤◌, Bool, true, false, eqb, ltb, leb, List, [], ◌∷◌, length, get_or, take, Some, None, MatchBool, sum_by, sym, ap, ◌∙◌, subst, ⊎_elim, arith, length-take, get_or-take}
 use Rattle.std.proofs.ByRecursion.{All-from_get_or, all-has, All-weaker, has_get_or, all_shuffled, has_shuffled}
-use Rattle.std.proofs.lemmas.List.Sorted.{IsPermutation-sym, sum_by-IsPermutation}
+use Rattle.std.proofs.lemmas.List.Sorted.{sum_by-IsPermutation}
 use Rattle.std.proofs.lemmas.List.Sums.{sum_by-cons}
-use Rattle.std.proofs.lemmas.Bool.{cases_lt, cases_Bool, ltb-true, eqb-true, cond-false, cond-true}
+use Rattle.std.proofs.lemmas.Bool.{cases_lt, cases_Bool, ltb-true, eqb-true, cond-false}
 use Rattle.std.specs.List.{ContainsAt as Has, AllByRecursion as All}
 use Rattle.std.specs.List.Sorted.{IsPermutation}
 use Rattle.books.specs.Meaning.{Meaning}
@@ -10,7 +10,7 @@ use Rattle.orders.specs.Models.{candidate_le}
 use Rattle.orders.specs.Order.{Least}
 use Rattle.orders.specs.declared.candidate.Candidate.{Candidate}
 use Rattle.planning.specs.Candidates.{Searched, Stands}
-use Rattle.planning.specs.Hyperperiod.{LeastHyperperiod, NextServing, NoneServes, Serves, ServesTask}
+use Rattle.planning.specs.Hyperperiod.{LeastHyperperiod, NextServing, NoneServes, ServesTask}
 use Rattle.planning.proofs.Membership.{has_cons_cases, has_head, has_tail}
 
 -- at a yes, what is promised of a yes

@@ -1,4 +1,4 @@
-use Rattle.std.proofs.Common.{◌≡◌, ℕ, ◌+◌, ◌-◌, ◌*◌, ◌/◌, ◌%◌, ◌<◌, ◌≤◌, mul-le-mul_right, add-mul, lt_of_mul-lt-mul_right, one-mul, div-add-mod', div-mul-le_self, arith}
+use Rattle.std.proofs.Common.{◌≡◌, ℕ, ◌+◌, ◌-◌, ◌*◌, ◌/◌, ◌%◌, ◌<◌, ◌≤◌, add-mul, lt_of_mul-lt-mul_right, one-mul, div-add-mod', div-mul-le_self, arith}
 use native.Mathlib.Nat.{lt-div-mul-add}
 
 -- the quotient rounded up reaches the number, and only just

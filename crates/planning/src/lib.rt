@@ -1,6 +1,7 @@
 // Planning: from a book of periods to the least hyperperiod and the chosen period of each task.
 // Each call answers by the book's meaning alone. What is promised starts in
 // specs/Hyperperiod.antt.
+#![tactic(auto)]
 
 mod chosen;
 mod frame;

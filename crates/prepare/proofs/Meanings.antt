@@ -1,4 +1,4 @@
-use Rattle.std.proofs.Common.{◌≡◌, ℕ, List, [], ◌++◌, IfOk as made, Ok, Err, Result, ap, ◌∙◌, subst}
+use Rattle.std.proofs.Common.{◌≡◌, ℕ, List, ◌++◌, IfOk as made, Ok, Err, Result, ap, ◌∙◌, subst}
 use Rattle.books.specs.Meaning.{Meaning}
 use Rattle.books.specs.Sets.{beside, gridded, lists_of, ranges_of}
 use Rattle.books.specs.declared.grid.Grid.{Grid}
@@ -11,7 +11,6 @@ use Rattle.run.specs.declared.call.Answer.{Answer}
 use Rattle.run.specs.declared.call.Answer.TheVariants.{Refused}
 use Rattle.run.specs.declared.planner.Planner.{Planner}
 use Rattle.run.specs.declared.planner.calls.Granted.{Granted}
-use Rattle.run.specs.declared.refusal.Refusal.{Refusal}
 use Rattle.sheets.specs.Entries.{list_layout, range_layout}
 use Rattle.sheets.specs.Reads.{Holds, figures_held}
 use Rattle.sheets.specs.Sheets.{figures_in, meaning_of, tasks_of}

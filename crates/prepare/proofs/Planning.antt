@@ -7,7 +7,6 @@ use Rattle.run.specs.Kept.{Kept}
 use Rattle.run.specs.Right.{Right}
 use Rattle.run.specs.declared.call.Answer.{Answer}
 use Rattle.run.specs.declared.call.Answer.TheVariants.{Refused}
-use Rattle.run.specs.declared.call.Call.{Call}
 use Rattle.run.specs.declared.call.Call.TheVariants.{Charge, Plan}
 use Rattle.run.specs.declared.planner.Planner.{Planner}
 use Rattle.run.specs.declared.refusal.Refusal.{Refusal}

@@ -12,7 +12,7 @@ use Rattle.run.specs.declared.planner.Planner.{Planner}
 use Rattle.run.specs.Account.{Account, Standing, hear, is_granted}
 use Rattle.run.specs.Agrees.{Agrees, AlteredIf, AtPlace, Carries, Ends, StandsAs, Unaltered, upcoming_in}
 use Rattle.run.specs.Events.{Begins, frame_ends, joined, rows_in, run_events, slice_of}
-use Rattle.run.specs.Kept.{Kept, KeptBy, Delivers}
+use Rattle.run.specs.Kept.{Kept, KeptBy}
 use Rattle.run.specs.Right.{NextRight, PeriodFound, PlanRight, Right, RowRight, TableOf}
 use Rattle.run.specs.declared.call.Answer.{Answer}
 use Rattle.run.specs.declared.call.Call.{Call}

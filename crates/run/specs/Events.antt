@@ -1,4 +1,4 @@
-use Rattle.std.specs.Prelude.{◌≡◌, ℕ, zero, suc, ◌+◌, cond, ◌&&◌, List, [], ◌∷◌, ◌++◌, map, sum_by, filter, ◌==◌, nat_eq}
+use Rattle.std.specs.Prelude.{◌≡◌, ℕ, zero, suc, cond, ◌&&◌, List, [], ◌∷◌, ◌++◌, map, sum_by, filter, ◌==◌, nat_eq}
 use Rattle.planning.specs.declared.job.Row.{Row}
 use Rattle.run.specs.declared.event.Event.{Event}
 use Rattle.run.specs.declared.event.Event.TheVariants.{Slice, FrameEnd}

@@ -1,4 +1,4 @@
-use Rattle.std.specs.Prelude.{◌≡◌, ℕ, ◌*◌, ◌/◌, ◌<◌, ◌≤◌, Bool, true, false, cond, ◌&&◌, List, [], ◌∷◌, ◌++◌, length, is_some, Some, None, Option, nat_le, nat_lt}
+use Rattle.std.specs.Prelude.{◌≡◌, ℕ, ◌*◌, ◌/◌, ◌<◌, ◌≤◌, Bool, cond, ◌&&◌, List, [], ◌∷◌, ◌++◌, length, is_some, Some, None, Option, nat_le, nat_lt}
 use Rattle.books.specs.Meaning.{Meaning}
 use Rattle.planning.specs.declared.job.Figures.{Figures}
 use Rattle.planning.specs.declared.job.Row.{Row}
@@ -14,7 +14,6 @@ use Rattle.run.specs.declared.call.Answer.TheVariants.{Charged, Planned, Rewound
 use Rattle.run.specs.declared.call.Call.{Call}
 use Rattle.run.specs.declared.call.Call.TheVariants.{Charge, Plan, Rewind, Next, Period, RowAt}
 use Rattle.run.specs.declared.event.Event.{Event}
-use Rattle.run.specs.declared.refusal.Refusal.{Refusal}
 use Rattle.run.specs.declared.refusal.Refusal.TheVariants.{TaskOutOfRange, CostOutOfRange, DeadlineOutOfRange, NoPlan, Ended}
 use Rattle.run.specs.Account.{Account, Standing}
 use Rattle.run.specs.Events.{Begins, frame_ends, run_events}

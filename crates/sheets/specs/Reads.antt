@@ -1,4 +1,4 @@
-use Rattle.std.specs.Prelude.{◌≡◌, ℕ, ◌+◌, ◌-◌, ◌≤◌, Bool, true, false, cond, ◌&&◌, ◌||◌, List, [], ◌++◌, length, take, is_some, Some, None, Ok, Err, Option, Result, nat_le, slice_index_or}
+use Rattle.std.specs.Prelude.{◌≡◌, ℕ, ◌-◌, ◌≤◌, Bool, true, false, cond, ◌&&◌, ◌||◌, List, [], ◌++◌, length, take, is_some, Some, None, Ok, Err, Option, Result, nat_le, slice_index_or}
 use Rattle.std.specs.List.{slice_get}
 use Rattle.books.specs.Meaning.{Meaning}
 use Rattle.books.specs.Questions.{Refused, refusal}

@@ -1,6 +1,7 @@
 // Sheets of text: what an engineer writes down of a console's tasks, one to a line. A sheet means a list
 // of tasks, or gets one refusal with its line and field, for every sequence of bytes. What is promised
 // starts in specs/Text.antt.
+#![tactic(auto)]
 
 mod class;
 pub mod fault;

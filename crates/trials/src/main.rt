@@ -1,5 +1,6 @@
 // Planners on books that are written for the trial alone: each is driven through a list of calls, and
 // every answer is printed on a line.
+#![tactic(auto)]
 
 mod answer;
 mod barred;

@@ -1,4 +1,4 @@
-use Rattle.std.proofs.Common.{◌≡◌, ℕ, ◌*◌, ◌/◌, ◌≤◌, true, sym, ap, ◌∙◌, subst, mul_comm, arith}
+use Rattle.std.proofs.Common.{◌≡◌, ℕ, ◌*◌, ◌/◌, true, sym, ap, ◌∙◌, subst, mul_comm, arith}
 use Rattle.books.specs.Meaning.{Meaning}
 use Rattle.planning.specs.Hyperperiod.{AllowedDivisor}
 use Rattle.planning.proofs.Divisors.{quotient_from_one, quotient_more, divisor_is, divisor_divides, divisor_at_most, no_quotient_left, yes_and_no}

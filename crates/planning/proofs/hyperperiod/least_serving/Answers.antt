@@ -1,4 +1,4 @@
-use Rattle.std.proofs.Common.{◌≡◌, length, take, subst, arith, rules}
+use Rattle.std.proofs.Common.{◌≡◌, length, take, subst, rules}
 use Rattle.std.specs.List.Sorted.{IsPermutation}
 use Rattle.books.specs.Meaning.{Meaning}
 use Rattle.orders.specs.Held.{held}

@@ -1,9 +1,7 @@
-use Rattle.std.proofs.Common.{◌≡◌, ◌<◌, ltb, ◌∷◌, length, refl, ◌∙◌, arith, length-take}
+use Rattle.std.proofs.Common.{◌<◌, ◌∷◌, length, refl, ◌∙◌, arith, length-take}
 use Rattle.std.proofs.lemmas.Bool.{lt-ltb}
 use Rattle.std.specs.List.Sorted.{IsPermutation}
-use Rattle.books.specs.Meaning.{Meaning}
 use Rattle.orders.specs.Held.{held, room}
-use Rattle.orders.specs.declared.candidate.Candidate.{Candidate}
 use Rattle.planning.proofs.Searches.{all_agree, moved, nearer, none_left, some_candidate, when_yes}
 use Rattle.planning.proofs.hyperperiod.search.Goals as goal
 use Rattle.planning.proofs.hyperperiod.search.Given as given

@@ -1,4 +1,4 @@
-use Rattle.std.proofs.Common.{◌≡◌, ℕ, ◌+◌, ◌-◌, ◌*◌, ◌<◌, ◌≤◌, true, sym, subst, mul_comm, mul-le-mul_left, le-mul_of_pos_right, arith}
+use Rattle.std.proofs.Common.{◌≡◌, ℕ, ◌-◌, sym, subst, mul_comm, mul-le-mul_left, le-mul_of_pos_right, arith}
 use Rattle.books.specs.Meaning.{Meaning}
 use Rattle.planning.specs.Multiples.{BoundsFor, Lowered}
 use Rattle.planning.proofs.Lowering.{lowered_again, lowered_reaches, lowered_serves, quotient_more, quotients_all}

@@ -1,4 +1,4 @@
-use Rattle.std.proofs.Common.{◌≡◌, ℕ, ◌*◌, ◌<◌, ◌≤◌, true}
+use Rattle.std.proofs.Common.{◌≤◌}
 use Rattle.planning.specs.Multiples.{Lowered, BoundsFor}
 use Rattle.planning.proofs.multiples.by_quotient.Given as goal
 

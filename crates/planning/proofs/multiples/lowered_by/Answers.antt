@@ -1,5 +1,4 @@
-use Rattle.std.proofs.Common.{◌≡◌, ◌*◌, ◌<◌, ◌≤◌, arith}
-use Rattle.planning.specs.Multiples.{LoweredBy}
+use Rattle.std.proofs.Common.{◌*◌, ◌<◌, ◌≤◌}
 use Rattle.planning.proofs.Lowering.{falls, stays}
 use Rattle.planning.proofs.multiples.lowered_by.Goals as goal
 

@@ -1,8 +1,7 @@
-use Rattle.std.proofs.Common.{◌≡◌, ℕ, ◌/◌, ◌≤◌, List, vec_items, sym, ap, ◌∙◌, subst, ⊎_elim, arith, below_more}
+use Rattle.std.proofs.Common.{◌≡◌, ◌/◌, List, vec_items, sym, ap, ◌∙◌, subst, arith}
 use Rattle.planning.specs.FrameRows.{Unfinished}
-use Rattle.planning.specs.Placing.{Finishes, Frames, Gifts, IsGreedy, Overloaded}
+use Rattle.planning.specs.Placing.{Finishes, Frames, Gifts, IsGreedy}
 use Rattle.planning.specs.Rows.{GreedyRows}
-use Rattle.planning.specs.Sizes.{frames_of}
 use Rattle.planning.specs.Windows.{placed}
 use Rattle.planning.specs.declared.job.Job.{Job}
 use Rattle.planning.proofs.FrameSizes.{Tried, every_size_overloaded, largest_size, one_more_tried, pair_quotient, tried_more}

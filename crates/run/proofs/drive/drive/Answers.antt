@@ -1,4 +1,4 @@
-use Rattle.std.proofs.Common.{◌≡◌, ◌+◌, ◌≤◌, length, take, vec_items, sym, ap, ◌∙◌, subst, arith}
+use Rattle.std.proofs.Common.{◌≡◌, ◌+◌, length, take, vec_items, sym, ap, ◌∙◌, subst, arith}
 use lib.Seq.{take-length}
 use Rattle.run.specs.declared.call.Call.TheVariants.{Charge}
 use Rattle.run.specs.Account.{empty}

@@ -1,4 +1,4 @@
-use Rattle.std.proofs.Common.{◌≡◌, ℕ, Bool, true, false, cond, List, codes, Result, sym, subst}
+use Rattle.std.proofs.Common.{◌≡◌, ℕ, Bool, true, false, cond, List, Result, sym, subst}
 use Rattle.sheets.specs.Entries.{entry_of_class, class_task, is_class, entry_of_range, range_layout, range_task}
 use Rattle.sheets.specs.Lines.{field_at, fields_of, word_in}
 use Rattle.sheets.specs.Steps.{RangeRead}

@@ -1,8 +1,6 @@
-use Rattle.std.proofs.Common.{◌≡◌, ℕ, ◌/◌, ◌<◌, ◌≤◌, List, get_or, Some, None, vec_items, Option, sym, refl, ap, ◌∙◌, subst, inl, inr, arith}
+use Rattle.std.proofs.Common.{◌≡◌, ℕ, ◌<◌, List, get_or, Some, None, vec_items, Option, sym, refl, ap, ◌∙◌, subst, inl, inr, arith}
 use Rattle.books.specs.Meaning.{Meaning}
 use Rattle.planning.specs.declared.job.Figures.{Figures}
-use Rattle.planning.specs.declared.job.Job.{Job}
-use Rattle.planning.specs.declared.job.Row.{Row}
 use Rattle.planning.specs.Charges.{figures_at}
 use Rattle.planning.specs.Hyperperiod.{Chosen}
 use Rattle.planning.specs.Plans.{Prepared, Sought, book_jobs, jobs_in}
