@@ -3,7 +3,7 @@ use Rattle.std.proofs.ByRecursion.{All-from_get_or, all-has, All-weaker, has_get
 use Rattle.std.proofs.lemmas.List.Sorted.{sum_by-IsPermutation}
 use Rattle.std.proofs.lemmas.List.Sums.{sum_by-cons}
 use Rattle.std.proofs.lemmas.Bool.{cases_lt, cases_Bool, ltb-true, eqb-true, cond-false}
-use Rattle.std.specs.List.{ContainsAt as Has, AllByRecursion as All}
+use Rattle.std.specs.List.{ContainsAt as Has, AllByRecursion}
 use Rattle.std.specs.List.Sorted.{IsPermutation}
 use Rattle.books.specs.Meaning.{Meaning}
 use Rattle.orders.specs.Models.{candidate_le}
@@ -72,7 +72,7 @@ module _ (m : Meaning) (highest : ℕ) (cs : List Candidate) (s : Searched m hig
       }
 
   module _ (x : Candidate) (ds : List Candidate) (taken : IsPermutation cs (x ∷ ds)) where
-    stands_all : All (Stands m highest) (x ∷ ds)
+    stands_all : AllByRecursion (Stands m highest) (x ∷ ds)
     stands_all = all_shuffled (Stands m highest) cs (x ∷ ds) taken s.stand
 
     pub taken_stands : Stands m highest x

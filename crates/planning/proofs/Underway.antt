@@ -1,5 +1,5 @@
 use Rattle.std.proofs.Common.{◌≡◌, ℕ, ◌+◌, ◌-◌, ◌*◌, ◌<◌, ◌≤◌, min, Bool, true, cond, not, ◌&&◌, eqb, ltb, leb, ◌⊎◌, List, [], ◌∷◌, ◌++◌, map, length, get_or, set, sym, refl, ap, ◌∙◌, subst, inl, inr, ⊎_elim, arith}
-use Rattle.std.specs.List.{ContainsAt as Has, AllByRecursion as All}
+use Rattle.std.specs.List.{ContainsAt as Has, AllByRecursion}
 use Rattle.std.specs.List.Sorted.{IsPermutation}
 use Rattle.std.proofs.ByRecursion.{All-get_or, All-push, All-weaker, has_append_left, has_push}
 use Rattle.std.proofs.lemmas.List.{append_assoc, append-nil, get_or_append_left, get_or_push, get_or-set_other, get_or-set_same, length_push, map_push}
@@ -64,7 +64,7 @@ service_begins jobs frame size lacks held rows holds =
     }
 
 -- two functions that agree on each element make the same list
-pub map_alike : {X Y : Type 0} (f g : X → Y) (xs : List X) → All (λ x. f x ≡ g x) xs → map f xs ≡ map g xs
+pub map_alike : {X Y : Type 0} (f g : X → Y) (xs : List X) → AllByRecursion (λ x. f x ≡ g x) xs → map f xs ≡ map g xs
 map_alike f g [] each = refl
 map_alike f g (x ∷ xs) each = ap (λ y. y ∷ map f xs) each.0 ∙ ap (λ ys. g x ∷ ys) (map_alike f g xs each.1)
 
@@ -183,7 +183,7 @@ module _ (jobs : List Job) (frame size : ℕ) (before after : List ℕ) (left : 
                 (cases_eq i p);
           }
         where
-          in_service : (ps : List ℕ) → InService (placed jobs) ps → All (λ i. (i < length jobs) × (0 < fallen before after i)) ps → InService (placed jobs) (ps ++ p ∷ [])
+          in_service : (ps : List ℕ) → InService (placed jobs) ps → AllByRecursion (λ i. (i < length jobs) × (0 < fallen before after i)) ps → InService (placed jobs) (ps ++ p ∷ [])
           in_service ps old gifts a b d low high =
               let long : length (ps ++ p ∷ []) ≡ length ps + 1 = length_push ps p in
               let at_a : get_or (ps ++ p ∷ []) a d ≡ get_or ps a d = get_or_append_left ps (p ∷ []) d a (omega arith) in

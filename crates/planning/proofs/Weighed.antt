@@ -1,5 +1,5 @@
 use Rattle.std.proofs.Common.{◌≡◌, ℕ, ◌+◌, ◌<◌, ◌≤◌, Bool, true, false, cond, not, ◌&&◌, eqb, List, [], ◌∷◌, length, take, set, sum_by, sym, refl, ap, ◌∙◌, subst, ⊎_elim, arith}
-use Rattle.std.specs.List.{AllByRecursion as All}
+use Rattle.std.specs.List.{AllByRecursion}
 use Rattle.std.specs.List.Sorted.{IsPermutation}
 use Rattle.std.proofs.lemmas.List.{take_more_set}
 use Rattle.std.proofs.lemmas.List.Sorted.{sum_by-IsPermutation}
@@ -103,7 +103,7 @@ module _ (jobs : List Job) (waits : ℕ → Bool) (held : List Waiting) (holds :
       (omega (arith, holds over, none_over over held least, term_at_most_sum (length jobs) (weighed jobs waits over) i l, cond-true {A = ℕ} (waits i) (over (waiting_of (job_at jobs i))) 0 waiting, cond-false {A = ℕ} (waiting_le x (waiting_of (job_at jobs i))) 0 1 no)))
       (cases_Bool (waiting_le x (waiting_of (job_at jobs i))))
     where
-      none_over : (over : Waiting → ℕ) (ys : List Waiting) → All (λ y. waiting_le x y ≡ true) ys → sum_by (λ y. cond (waiting_le x y) 0 1) ys ≡ 0
+      none_over : (over : Waiting → ℕ) (ys : List Waiting) → AllByRecursion (λ y. waiting_le x y ≡ true) ys → sum_by (λ y. cond (waiting_le x y) 0 1) ys ≡ 0
       none_over over [] each = refl
       none_over over (y ∷ ys) each =
           omega (arith, sum_by-cons (λ y. cond (waiting_le x y) 0 1) y ys, none_over over ys each.1, cond-true {A = ℕ} (waiting_le x y) 0 1 each.0)

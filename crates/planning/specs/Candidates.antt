@@ -1,5 +1,5 @@
 use Rattle.std.specs.Prelude.{◌≡◌, ℕ, ◌<◌, ◌≤◌, List, Ok, Err, Result}
-use Rattle.std.specs.List.{ContainsAt as Has, AllByRecursion as All}
+use Rattle.std.specs.List.{ContainsAt as Has, AllByRecursion}
 use Rattle.books.specs.Meaning.{Meaning}
 use Rattle.orders.specs.declared.candidate.Candidate.{Candidate}
 use Rattle.planning.specs.declared.refusal.Refusal.{Refusal}
@@ -15,7 +15,7 @@ Stands m highest c = (c.task < m.count) × (c.number ≤ highest) × (1 ≤ c.nu
 -- number below the highest serves the book.
 pub record Searched (m : Meaning) (highest : ℕ) (cs : List Candidate) : Type 0 where
   pub tasks : (task : ℕ) → task < m.count → (n : ℕ) × Has cs (record { number = n; task = task })
-  pub stand : All (Stands m highest) cs
+  pub stand : AllByRecursion (Stands m highest) cs
   pub below : (n : ℕ) → 1 ≤ n → n < highest → Serves m n → ⊥
 
 -- What the search finds.

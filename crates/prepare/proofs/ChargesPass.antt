@@ -1,5 +1,5 @@
 use Rattle.std.proofs.Common.{◌≡◌, ℕ, suc, ◌+◌, ◌-◌, ◌<◌, ◌≤◌, min, List, [], ◌∷◌, ◌++◌, map, length, set, replicate, Some, None, Option, sym, refl, ap, ◌∙◌, subst, inl, inr, ⊎_elim, append_assoc, append-nil, arith}
-use Rattle.std.specs.List.{AllByRecursion as All}
+use Rattle.std.specs.List.{AllByRecursion}
 use Rattle.std.proofs.ByRecursion.{All-append}
 use Rattle.std.proofs.lemmas.List.{length-append, length-map, length_push, map_push, set_at}
 use Rattle.std.proofs.lemmas.Bool.{cases_lt, true≢false}
@@ -46,7 +46,7 @@ not_last answer calls ceiling is (inr none) = omega (arith, length_push calls (P
 
 module _ (m : Meaning) (figures : List Figures) (ceiling : ℕ) (answer : Answer) (after : Account) (counted : m.count ≡ min 17 (length figures)) where
   -- From an account with the first n figures noted on, the calls that are left come to the last answer.
-  left_pass : (done left : List Figures) (n : ℕ) (a : Account) → length done ≡ n → done ++ left ≡ figures → n ≤ 16 → a.figures ≡ noted_figures done → All InRange left
+  left_pass : (done left : List Figures) (n : ℕ) (a : Account) → length done ≡ n → done ++ left ≡ figures → n ≤ 16 → a.figures ≡ noted_figures done → AllByRecursion InRange left
       → Carried m a (charges_from n left ++ Plan ceiling ∷ []) answer after → LastAnswer m figures ceiling answer
   left_pass done [] n a sized split few noted ranged (inl last) =
       let all : done ≡ figures = sym (append-nil done) ∙ split in

@@ -2,7 +2,7 @@ use Rattle.std.proofs.Common.{◌≡◌, ℕ, zero, suc, ◌+◌, ◌*◌, ◌<�
 use Rattle.std.proofs.ByRecursion.{All-weaker}
 use Rattle.std.proofs.lemmas.List.Sums.{sum_by-append, sum_by-cons, sum_by_push}
 use Rattle.std.proofs.lemmas.Bool.{cond_both, eqb-true}
-use Rattle.std.specs.List.{AllByRecursion as All}
+use Rattle.std.specs.List.{AllByRecursion}
 use Rattle.planning.specs.declared.job.Row.{Row}
 use Rattle.run.specs.declared.event.Event.{Event}
 use Rattle.run.specs.declared.event.Event.TheVariants.{FrameEnd}
@@ -14,10 +14,10 @@ AllFrom law e [] = Unit {0}
 AllFrom law e (x ∷ xs) = law e x × AllFrom law (e + end_of x) xs
 
 -- what passes a test keeps what each element keeps if it passes
-all_passing : {X : Type 0} (test : X → Bool) (P : X → Type 0) (xs : List X) → All (λ x. test x ≡ true → P x) xs → All P (filter test xs)
+all_passing : {X : Type 0} (test : X → Bool) (P : X → Type 0) (xs : List X) → AllByRecursion (λ x. test x ≡ true → P x) xs → AllByRecursion P (filter test xs)
 all_passing test P [] each = tt
 all_passing test P (x ∷ xs) each =
-    cond_both (test x) (x ∷ filter test xs) (filter test xs) (All P)
+    cond_both (test x) (x ∷ filter test xs) (filter test xs) (AllByRecursion P)
     (λ yes. (each.0 yes, all_passing test P xs each.1))
     (λ no. all_passing test P xs each.1)
 
@@ -72,15 +72,15 @@ module _ (law : ℕ → Event → Type 0) where
       from_append e (joined n f) (f n) (from_joined q e n f ends (λ i l. each i (omega arith)))
       (from_same (e + n * q) (e + frame_ends (joined n f)) (f n) (omega (arith, joined_ends q n f ends)) (each n (omega arith)))
 
-  from_slices : (e r : ℕ) (rows : List Row) → All (λ row. law e (slice_of r row)) rows → AllFrom law e (map (slice_of r) rows)
+  from_slices : (e r : ℕ) (rows : List Row) → AllByRecursion (λ row. law e (slice_of r row)) rows → AllFrom law e (map (slice_of r) rows)
   from_slices e r [] each = tt
   from_slices e r (row ∷ rows) each =
       (each.0, from_same e (e + end_of (slice_of r row)) (map (slice_of r) rows) (omega arith) (from_slices e r rows each.1))
 
-  module _ (at_ends : (e r g : ℕ) → law e (FrameEnd r g)) (rows : List Row) (frames : ℕ) (at_rows : (r : ℕ) → All (λ row. law (r * frames + row.frame) (slice_of r row)) rows) where
+  module _ (at_ends : (e r g : ℕ) → law e (FrameEnd r g)) (rows : List Row) (frames : ℕ) (at_rows : (r : ℕ) → AllByRecursion (λ row. law (r * frames + row.frame) (slice_of r row)) rows) where
     from_frame : (r g : ℕ) → AllFrom law (r * frames + g) (frame_events rows r g)
     from_frame r g =
-        let here : All (λ row. law (r * frames + g) (slice_of r row)) (rows_in rows g) =
+        let here : AllByRecursion (λ row. law (r * frames + g) (slice_of r row)) (rows_in rows g) =
         all_passing (λ row. eqb row.frame g) (λ row. law (r * frames + g) (slice_of r row)) rows
         (All-weaker (λ row. law (r * frames + row.frame) (slice_of r row)) (λ row. eqb row.frame g ≡ true → law (r * frames + g) (slice_of r row)) (λ row holds yes.
         let same : r * frames + row.frame ≡ r * frames + g = omega (arith, eqb-true row.frame g yes) in

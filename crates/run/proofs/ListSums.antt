@@ -1,7 +1,7 @@
 use Rattle.std.proofs.Common.{◌≡◌, ℕ, zero, suc, ◌+◌, Bool, cond, List, [], ◌∷◌, map, sum_by, filter, refl, ap, ⊎_elim, arith}
 use Rattle.std.proofs.lemmas.List.Sums.{sum_by-append, sum_by-cons}
 use Rattle.std.proofs.lemmas.Bool.{cases_Bool, cond-false, cond-true}
-use Rattle.std.specs.List.{AllByRecursion as All}
+use Rattle.std.specs.List.{AllByRecursion}
 use Rattle.planning.specs.Placing.{Sum}
 use Rattle.run.specs.Events.{joined}
 
@@ -11,12 +11,12 @@ sum_of_mapped h f (x ∷ xs) =
     omega (arith, sum_by-cons h (f x) (map f xs), sum_by-cons (λ y. h (f y)) x xs, sum_of_mapped h f xs)
 
 -- equal terms, equal sum
-pub sum_of_same : {X : Type 0} (h k : X → ℕ) (xs : List X) → All (λ x. h x ≡ k x) xs → sum_by h xs ≡ sum_by k xs
+pub sum_of_same : {X : Type 0} (h k : X → ℕ) (xs : List X) → AllByRecursion (λ x. h x ≡ k x) xs → sum_by h xs ≡ sum_by k xs
 sum_of_same h k [] each = refl
 sum_of_same h k (x ∷ xs) each =
     omega (arith, sum_by-cons h x xs, sum_by-cons k x xs, sum_of_same h k xs each.1, each.0)
 
-pub sum_of_none : {X : Type 0} (h : X → ℕ) (xs : List X) → All (λ x. h x ≡ 0) xs → sum_by h xs ≡ 0
+pub sum_of_none : {X : Type 0} (h : X → ℕ) (xs : List X) → AllByRecursion (λ x. h x ≡ 0) xs → sum_by h xs ≡ 0
 sum_of_none h [] each = refl
 sum_of_none h (x ∷ xs) each = omega (arith, sum_by-cons h x xs, sum_of_none h xs each.1, each.0)
 

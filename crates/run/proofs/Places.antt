@@ -4,7 +4,7 @@ use Rattle.std.proofs.ByRecursion.{All-append, All-weaker, kept_by_passes}
 use Rattle.std.proofs.lemmas.List.{append_assoc, append-nil, get_or_at, length-append, length_push, map-append, map_push}
 use Rattle.std.proofs.lemmas.List.Sums.{sum_by-append, sum_by-cons, sum_by_push}
 use Rattle.std.proofs.lemmas.Bool.{cases_lt, cond-false, cond-true, eq-eqb, eqb-true, le-ltb, lt-ltb, ne_eqb}
-use Rattle.std.specs.List.{AllByRecursion as All}
+use Rattle.std.specs.List.{AllByRecursion}
 use Rattle.planning.specs.declared.job.Row.{Row}
 use Rattle.planning.specs.Plans.{row_in}
 use Rattle.run.specs.declared.event.Event.{Event}
@@ -16,10 +16,10 @@ joined_next : {X : Type 0} (n : ℕ) (f : ℕ → List X) → joined (n + 1) f �
 joined_next n f = ap (λ k. joined k f) (add-one n)
 
 -- what is joined, at one of its parts
-pub joined_at : {X : Type 0} (P : X → Type 0) (f : ℕ → List X) (g : ℕ) → ((h : ℕ) → g < h → All P (f h)) → (n : ℕ) → g < n → (later : List X) × (joined n f ≡ joined g f ++ (f g ++ later)) × All P later
+pub joined_at : {X : Type 0} (P : X → Type 0) (f : ℕ → List X) (g : ℕ) → ((h : ℕ) → g < h → AllByRecursion P (f h)) → (n : ℕ) → g < n → (later : List X) × (joined n f ≡ joined g f ++ (f g ++ later)) × AllByRecursion P later
 joined_at P f g holds zero below = absurd (omega arith)
 joined_at {X} P f g holds (suc n) below =
-    ⊎_elim {C = (later : List X) × (joined n f ++ f n ≡ joined g f ++ (f g ++ later)) × All P later}
+    ⊎_elim {C = (later : List X) × (joined n f ++ f n ≡ joined g f ++ (f g ++ later)) × AllByRecursion P later}
     (λ (before : g < n).
     let (later, same, all) = joined_at P f g holds n before in (
       later ++ f n,
@@ -57,16 +57,16 @@ first [] = None
 first (x ∷ xs) = Some x
 
 -- what is upcoming is the first of what is left of the frame
-upcoming_first : (front left later : List Row) (g i : ℕ) → length front ≡ i → All (λ x. x.frame ≡ g) left → All (λ x. g < x.frame) later → upcoming_in (front ++ (left ++ later)) g i ≡ first left
+upcoming_first : (front left later : List Row) (g i : ℕ) → length front ≡ i → AllByRecursion (λ x. x.frame ≡ g) left → AllByRecursion (λ x. g < x.frame) later → upcoming_in (front ++ (left ++ later)) g i ≡ first left
 upcoming_first front [] [] g i long here after = ap (of_frame g) (row_past front i long)
 upcoming_first front [] (y ∷ later) g i long here after = ap (of_frame g) (row_at front y later i long) ∙ not_of_frame g y after.0
 upcoming_first front (x ∷ left) later g i long here after = ap (of_frame g) (row_at front x (left ++ later) i long) ∙ of_frame_lem g x here.0
 
-rows_here : (rows : List Row) (g : ℕ) → All (λ x. x.frame ≡ g) (rows_in rows g)
+rows_here : (rows : List Row) (g : ℕ) → AllByRecursion (λ x. x.frame ≡ g) (rows_in rows g)
 rows_here rows g =
     All-weaker (λ x. eqb x.frame g ≡ true) (λ x. x.frame ≡ g) (λ x same. eqb-true x.frame g same) (rows_in rows g) (kept_by_passes (λ row. eqb row.frame g) rows)
 
-all_right : {X : Type 0} (P : X → Type 0) (xs ys : List X) → All P (xs ++ ys) → All P ys
+all_right : {X : Type 0} (P : X → Type 0) (xs ys : List X) → AllByRecursion P (xs ++ ys) → AllByRecursion P ys
 all_right P [] ys all = all
 all_right P (x ∷ xs) ys all = all_right P xs ys all.1
 
@@ -111,8 +111,8 @@ module _ (rows : List Row) (F : ℕ) where
       in_order ∙ (same ∙ (ap (λ l. joined g (rows_in rows) ++ (l ++ later)) p.split ∙ simp append_assoc))
       in
       let long : length front ≡ i = omega (arith, length-append (joined g (rows_in rows)) p.done, p.placed) in
-      let here : All (λ x. x.frame ≡ g) p.left =
-      all_right (λ x. x.frame ≡ g) p.done p.left (subst (All (λ x. x.frame ≡ g)) p.split (rows_here rows g))
+      let here : AllByRecursion (λ x. x.frame ≡ g) p.left =
+      all_right (λ x. x.frame ≡ g) p.done p.left (subst (AllByRecursion (λ x. x.frame ≡ g)) p.split (rows_here rows g))
       in
       ap (λ l. upcoming_in l g i) whole ∙ upcoming_first front p.left later g i long here after
 
@@ -203,7 +203,7 @@ module _ (rows : List Row) (F : ℕ) where
       in
       (rest, b ∙ sym a)
     where
-      all_unit : (es : List Event) → All (λ e. Unit {0}) es
+      all_unit : (es : List Event) → AllByRecursion (λ e. Unit {0}) es
       all_unit [] = tt
       all_unit (e ∷ es) = (tt, all_unit es)
 

@@ -2,7 +2,7 @@ use Rattle.std.proofs.Common.{◌≡◌, ℕ, zero, suc, ◌<◌, ◌≤◌, tru
 use Rattle.std.proofs.ByRecursion.{All-from_get_or, All-map, All-weaker}
 use Rattle.std.proofs.lemmas.Bool.{cases_lt, cond-false, cond-true, eq-eqb, ne_eqb}
 use Rattle.std.proofs.lemmas.Bool.Decides.{nat_tests}
-use Rattle.std.specs.List.{AllByRecursion as All}
+use Rattle.std.specs.List.{AllByRecursion}
 use Rattle.planning.specs.declared.job.Job.{Job}
 use Rattle.planning.specs.declared.job.Row.{Row}
 use Rattle.planning.specs.Placing.{Frames, Gifts}
@@ -14,7 +14,7 @@ use Rattle.run.specs.Events.{joined, rows_in}
 -- the frames of the rows never fall
 abbrev NeverFalls : List Row → Type 0
 NeverFalls [] = Unit {0}
-NeverFalls (x ∷ xs) = All (λ y. x.frame ≤ y.frame) xs × NeverFalls xs
+NeverFalls (x ∷ xs) = AllByRecursion (λ y. x.frame ≤ y.frame) xs × NeverFalls xs
 
 joined_none : {X : Type 0} (n : ℕ) (f : ℕ → List X) → ((g : ℕ) → g < n → f g ≡ []) → joined n f ≡ []
 joined_none zero f none = refl
@@ -27,17 +27,17 @@ row_elsewhere : (x : Row) (xs : List Row) (g : ℕ) → (x.frame ≡ g → ⊥) 
 row_elsewhere x xs g apart = cond-false (eqb x.frame g) (x ∷ rows_in xs g) (rows_in xs g) (ne_eqb x.frame g apart)
 
 -- a frame before those of all the rows has none
-no_rows : (xs : List Row) (g : ℕ) → All (λ y. g < y.frame) xs → rows_in xs g ≡ []
+no_rows : (xs : List Row) (g : ℕ) → AllByRecursion (λ y. g < y.frame) xs → rows_in xs g ≡ []
 no_rows [] g later = refl
 no_rows (x ∷ xs) g later =
     row_elsewhere x xs g (λ same. omega (arith, later.0)) ∙ no_rows xs g later.1
 
-nothing_before : (xs : List Row) (n k : ℕ) → n ≤ k → All (λ y. k ≤ y.frame) xs → joined n (rows_in xs) ≡ []
+nothing_before : (xs : List Row) (n k : ℕ) → n ≤ k → AllByRecursion (λ y. k ≤ y.frame) xs → joined n (rows_in xs) ≡ []
 nothing_before xs n k below later =
     joined_none n (rows_in xs) (λ g h. no_rows xs g (All-weaker (λ y. k ≤ y.frame) (λ y. g < y.frame) (λ y (l : k ≤ y.frame). omega arith) xs later))
 
 -- the first row comes first
-first_row : (n : ℕ) (x : Row) (xs : List Row) → x.frame < n → All (λ y. x.frame ≤ y.frame) xs → joined n (rows_in (x ∷ xs)) ≡ x ∷ joined n (rows_in xs)
+first_row : (n : ℕ) (x : Row) (xs : List Row) → x.frame < n → AllByRecursion (λ y. x.frame ≤ y.frame) xs → joined n (rows_in (x ∷ xs)) ≡ x ∷ joined n (rows_in xs)
 first_row zero x xs below later = absurd (omega arith)
 first_row (suc n) x xs below later =
     ⊎_elim {C = joined n (rows_in (x ∷ xs)) ++ rows_in (x ∷ xs) n ≡ x ∷ (joined n (rows_in xs) ++ rows_in xs n)}
@@ -54,7 +54,7 @@ first_row (suc n) x xs below later =
     (cases_lt x.frame n)
 
 -- rows whose frames never fall come frame by frame
-pub in_order : (n : ℕ) (rows : List Row) → NeverFalls rows → All (λ x. x.frame < n) rows → rows ≡ joined n (rows_in rows)
+pub in_order : (n : ℕ) (rows : List Row) → NeverFalls rows → AllByRecursion (λ x. x.frame < n) rows → rows ≡ joined n (rows_in rows)
 in_order n [] falls below = sym (joined_none n (rows_in []) (λ g h. refl))
 in_order n (x ∷ xs) falls below =
     ap (λ l. x ∷ l) (in_order n xs falls.1 below.1) ∙ sym (first_row n x xs below.0 falls.0)
@@ -76,7 +76,7 @@ rows_by_frame jobs fr rows greedy =
     let table = greedy_exists (placed jobs) fr in
     let G : Gifts = table.0 in
     let r : RowsOf jobs fr G rows = greedy G table.1 in
-    let below : All (λ x. x.frame < fr.count) (map (row_of jobs G) r.places) =
+    let below : AllByRecursion (λ x. x.frame < fr.count) (map (row_of jobs G) r.places) =
     All-map (λ x. x.frame < fr.count) (row_of jobs G) r.places
     (All-weaker (IsGift (placed jobs) fr G) (λ p. p.frame < fr.count) (λ p gift. gift.0) r.places r.gifts)
     in

@@ -1,5 +1,5 @@
 use Rattle.std.proofs.Common.{◌≡◌, ℕ, zero, suc, ◌+◌, ◌<◌, ◌≤◌, true, false, cond, not, ◌&&◌, List, [], ◌∷◌, ◌++◌, map, length, get_or, take, drop, is_some, Some, None, Option, refl, subst, ⊎_elim, arith}
-use Rattle.std.specs.List.{AllByRecursion as All}
+use Rattle.std.specs.List.{AllByRecursion}
 use Rattle.std.proofs.ByRecursion.{All-from_get_or, All-map}
 use Rattle.std.proofs.lemmas.Bool.{cases_lt}
 use Rattle.std.proofs.lemmas.Bool.Decides.{nat_tests}
@@ -83,7 +83,7 @@ line_in_range layout lines k tell h =
     tell fields (length names) (all_yes name entry (all_yes count (name ∷ entry) word.1).1).1
 
 -- A sheet that is not refused tells only tasks with figures in range.
-sheet_in_range : (layout : Layout) (sheet : List ℕ) → Tells layout → sheet_fault layout sheet ≡ None → All InRange (figures_in (tasks_of layout sheet))
+sheet_in_range : (layout : Layout) (sheet : List ℕ) → Tells layout → sheet_fault layout sheet ≡ None → AllByRecursion InRange (figures_in (tasks_of layout sheet))
 sheet_in_range layout sheet tell stands =
     let lines = lines_of sheet in
     let passed = (neither (whole_fault sheet) (fault_within layout lines (length lines)) stands).1 in
@@ -92,8 +92,8 @@ sheet_in_range layout sheet tell stands =
     (All-from_get_or (λ line. InRange (layout.task (fields_of line)).figures) lines []
     (λ k below. line_in_range layout lines k tell (each_passes layout lines (length lines) k below passed))))
 
-pub ranges_in_range : (sheet : List ℕ) → sheet_fault range_layout sheet ≡ None → All InRange (figures_in (tasks_of range_layout sheet))
+pub ranges_in_range : (sheet : List ℕ) → sheet_fault range_layout sheet ≡ None → AllByRecursion InRange (figures_in (tasks_of range_layout sheet))
 ranges_in_range sheet = sheet_in_range range_layout sheet ranges_tell
 
-pub lists_in_range : (sheet : List ℕ) → sheet_fault list_layout sheet ≡ None → All InRange (figures_in (tasks_of list_layout sheet))
+pub lists_in_range : (sheet : List ℕ) → sheet_fault list_layout sheet ≡ None → AllByRecursion InRange (figures_in (tasks_of list_layout sheet))
 lists_in_range sheet = sheet_in_range list_layout sheet lists_tell

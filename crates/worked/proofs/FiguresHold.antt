@@ -1,5 +1,5 @@
 use Rattle.std.proofs.Common.{◌≡◌, ℕ, suc, ◌%◌, ◌≤◌, Bool, true, eqb, leb, List, [], ◌∷◌, get_or, is_some, None, Option, refl, inr, arith}
-use Rattle.std.specs.List.{AllByRecursion as All}
+use Rattle.std.specs.List.{AllByRecursion}
 use Rattle.std.proofs.lemmas.Bool.{and_parts, leb-true}
 use Rattle.books.specs.Meaning.{Meaning}
 use Rattle.books.specs.Sets.{gridded, is_within}
@@ -102,7 +102,7 @@ shown_found m charges ceiling (PlanRefused number) (nine, h, periods, test, barr
       },
     ))))
 
-each_holds : (figures : List Figure) → All (λ figure. Shown figure.book figure.charges figure.ceiling figure.found) figures → All Holds figures
+each_holds : (figures : List Figure) → AllByRecursion (λ figure. Shown figure.book figure.charges figure.ceiling figure.found) figures → AllByRecursion Holds figures
 each_holds [] shown = tt
 each_holds (figure ∷ rest) (one, shown) =
     (shown_found figure.book figure.charges figure.ceiling figure.found one, each_holds rest shown)
