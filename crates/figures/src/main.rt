@@ -6,13 +6,16 @@ mod layers;
 mod singles;
 
 use planning::{Plan, Workspace};
+use std::process::ExitCode;
 
-fn main(rt: HostRuntime) -> anyhow::Result<()> {
-    let done = run(&rt);
-    if let Err(error) = &done {
-        let _ = eprintln!(rt; "figures: {error}");
+fn main(rt: HostRuntime) -> ExitCode {
+    match run(&rt) {
+        Ok(()) => ExitCode::SUCCESS,
+        Err(error) => {
+            let _ = eprintln!(rt; "figures: {error}");
+            ExitCode::FAILURE
+        }
     }
-    done
 }
 
 fn run(rt: &HostRuntime) -> anyhow::Result<()> {

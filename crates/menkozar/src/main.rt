@@ -9,12 +9,16 @@ mod four;
 mod report;
 mod session;
 
-fn main(rt: HostRuntime) -> anyhow::Result<()> {
-    let done = run(&rt);
-    if let Err(error) = &done {
-        let _ = eprintln!(rt; "menkozar: {error}");
+use std::process::ExitCode;
+
+fn main(rt: HostRuntime) -> ExitCode {
+    match run(&rt) {
+        Ok(()) => ExitCode::SUCCESS,
+        Err(error) => {
+            let _ = eprintln!(rt; "menkozar: {error}");
+            ExitCode::FAILURE
+        }
     }
-    done
 }
 
 fn run(rt: &HostRuntime) -> anyhow::Result<()> {

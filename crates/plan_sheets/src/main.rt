@@ -6,6 +6,7 @@ use console::answer;
 use std::fs::File;
 use std::io;
 use std::io::{ErrorKind, Read, Write};
+use std::process::ExitCode;
 
 // One byte more than a sheet may have, which tells one that is too long.
 const MOST: u64 = 4_097;
@@ -13,12 +14,14 @@ const MOST: u64 = 4_097;
 // Longer than the text of any plan: 1,297 lines of at most 31 bytes.
 const ROOM: usize = 65_536;
 
-fn main(rt: HostRuntime) -> anyhow::Result<()> {
-    let done = run(&rt);
-    if let Err(error) = &done {
-        let _ = eprintln!(rt; "menkozar: {error}");
+fn main(rt: HostRuntime) -> ExitCode {
+    match run(&rt) {
+        Ok(()) => ExitCode::SUCCESS,
+        Err(error) => {
+            let _ = eprintln!(rt; "plan_sheets: {error}");
+            ExitCode::FAILURE
+        }
     }
-    done
 }
 
 fn run(rt: &HostRuntime) -> anyhow::Result<()> {

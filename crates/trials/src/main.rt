@@ -13,13 +13,16 @@ use books::Book;
 use run::Call;
 use run::drive::drive;
 use std::io;
+use std::process::ExitCode;
 
-fn main(rt: HostRuntime) -> anyhow::Result<()> {
-    let done = run_all(&rt);
-    if let Err(error) = &done {
-        let _ = eprintln!(rt; "trials: {error}");
+fn main(rt: HostRuntime) -> ExitCode {
+    match run_all(&rt) {
+        Ok(()) => ExitCode::SUCCESS,
+        Err(error) => {
+            let _ = eprintln!(rt; "trials: {error}");
+            ExitCode::FAILURE
+        }
     }
-    done
 }
 
 fn run_all(rt: &HostRuntime) -> anyhow::Result<()> {
