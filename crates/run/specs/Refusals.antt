@@ -1,5 +1,5 @@
 use Rattle.std.specs.Prelude.{ℕ}
-use Rattle.planning.specs.Refusals.{number as planningNumber, place as planningPlace}
+use Rattle.planning.specs.Refusals.{number as planning_number, place as planning_place}
 use Rattle.run.specs.declared.refusal.Refusal.{Refusal}
 use Rattle.run.specs.declared.refusal.Refusal.TheVariants.{TaskOutOfRange, CostOutOfRange, DeadlineOutOfRange, Planning, NoPlan, Ended}
 
@@ -8,7 +8,7 @@ abbrev pub number : Refusal → ℕ
 number (TaskOutOfRange task) = 1
 number (CostOutOfRange task) = 2
 number (DeadlineOutOfRange task) = 3
-number (Planning refusal) = planningNumber refusal
+number (Planning refusal) = planning_number refusal
 number NoPlan = 10
 number Ended = 11
 
@@ -17,6 +17,6 @@ abbrev pub place : Refusal → ℕ
 place (TaskOutOfRange task) = task
 place (CostOutOfRange task) = task
 place (DeadlineOutOfRange task) = task
-place (Planning refusal) = planningPlace refusal
+place (Planning refusal) = planning_place refusal
 place NoPlan = 0
 place Ended = 0

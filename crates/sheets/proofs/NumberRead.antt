@@ -1,8 +1,8 @@
 use Rattle.std.proofs.Common.{◌≡◌, ℕ, ◌+◌, ◌-◌, ◌*◌, ◌^◌, ◌<◌, ◌≤◌, true, false, List, [], ◌∷◌, length, get_or, take, sym, ap, ◌∙◌, ⊎_elim, mul-pos, arith, length-take, rules}
 use native.Mathlib.Nat.{one-le-pow}
-use Rattle.std.specs.Str.Parse.{AllDigits, digits_value as valueOfDigits}
+use Rattle.std.specs.Str.Parse.{AllDigits, digits_value}
 use Rattle.std.specs.Int.{IsInRange}
-use Rattle.std.specs.Char.{digit_value as digitValue}
+use Rattle.std.specs.Char.{digit_value}
 use Rattle.std.specs.Str.{all_ascii_digits}
 use Rattle.std.proofs.lemmas.Int.Digits.{digits_more, digits_value_more}
 use Rattle.std.proofs.lemmas.Str.Parse.{IsNumeralModel, digit_at, numerals_by_value, numerals_by_weight, tells_all_ascii_digits, tells_digits, digits_value_short}
@@ -22,8 +22,8 @@ some_worth (b ∷ bs) ds some first =
     let above : 0 < b - 48 = omega arith in
     omega (arith, mul-pos above (one-le-pow (length bs) 10 (omega arith)))
 
-digit_value : (b : ℕ) → 48 ≤ b → b ≤ 57 → digitValue b ≡ b - 48
-digit_value b low high = grind (arith, nat_tests)
+digit_value_lem : (b : ℕ) → 48 ≤ b → b ≤ 57 → digit_value b ≡ b - 48
+digit_value_lem b low high = grind (arith, nat_tests)
 
 module _ (bytes : List ℕ) where
   -- A byte that is no digit is in no number.
@@ -35,11 +35,11 @@ module _ (bytes : List ℕ) where
       (cases_Bool (all_ascii_digits bytes))
 
   -- Digits of too great a value are no number.
-  pub too_great : AllDigits 10 bytes → 200000 < valueOfDigits 10 bytes → is_number bytes ≡ false
+  pub too_great : AllDigits 10 bytes → 200000 < digits_value 10 bytes → is_number bytes ≡ false
   too_great ds great = let same = own.same bytes ds in grind (arith, nat_tests)
 
   -- One to six digits, the first not zero, are a number if their value is not too great.
-  pub is_number_lem : AllDigits 10 bytes → 0 < length bytes → length bytes ≤ 6 → (get_or bytes 0 0 ≡ 48 → ⊥) → valueOfDigits 10 bytes ≤ 200000 → (is_number bytes ≡ true) × (1 ≤ value bytes)
+  pub is_number_lem : AllDigits 10 bytes → 0 < length bytes → length bytes ≤ 6 → (get_or bytes 0 0 ≡ 48 → ⊥) → digits_value 10 bytes ≤ 200000 → (is_number bytes ≡ true) × (1 ≤ value bytes)
   is_number_lem ds some few first small =
       let same = own.same bytes ds in
       let digits = own.from bytes ds in
@@ -48,14 +48,14 @@ module _ (bytes : List ℕ) where
 
   module _ (i : ℕ) (below : i < length bytes) (ds : AllDigits 10 (take i bytes)) where
     -- Less than six digits write less than a hundred thousand.
-    pub few_small : length bytes ≤ 6 → valueOfDigits 10 (take i bytes) < 10 ^ 5
+    pub few_small : length bytes ≤ 6 → digits_value 10 (take i bytes) < 10 ^ 5
     few_small few =
         digits_value_short (numerals_by_value (AllDigits 10) tells_digits) (take i bytes) 5 ds (simp length-take (omega arith))
 
     -- One digit more.
     module _ (low : 48 ≤ get_or bytes i 0) (high : get_or bytes i 0 ≤ 57) where
       pub more_digits : AllDigits 10 (take (i + 1) bytes)
-      more_digits = digits_more 10 bytes i below ds (rw (digit_value (get_or bytes i 0) low high) (omega arith))
+      more_digits = digits_more 10 bytes i below ds (rw (digit_value_lem (get_or bytes i 0) low high) (omega arith))
 
-      pub more_value : valueOfDigits 10 (take i bytes) * 10 + (get_or bytes i 0 - 48) ≡ valueOfDigits 10 (take (i + 1) bytes)
-      more_value = sym (digits_value_more 10 bytes i below ∙ ap (λ d. valueOfDigits 10 (take i bytes) * 10 + d) (digit_value (get_or bytes i 0) low high))
+      pub more_value : digits_value 10 (take i bytes) * 10 + (get_or bytes i 0 - 48) ≡ digits_value 10 (take (i + 1) bytes)
+      more_value = sym (digits_value_more 10 bytes i below ∙ ap (λ d. digits_value 10 (take i bytes) * 10 + d) (digit_value_lem (get_or bytes i 0) low high))
