@@ -15,7 +15,7 @@ abbrev pub lines_of : List ℕ → List ℕ → List Row → List ℕ
 lines_of numbers periods rows = line_text (codes "plan") numbers ++ (period_lines 0 periods ++ slice_lines rows)
 
 -- With what is read of a plan, they are its text.
-pub lines-of-plan :
+pub lines_of_plan :
     (plan : Plan) {hyperperiod size jobs count : ℕ} {periods : List ℕ} {rows : List Row}
     → hyperperiod ≡ plan.hyperperiod
     → size ≡ plan.frame_size
@@ -25,7 +25,7 @@ pub lines-of-plan :
     → length periods ≡ plan.tasks
     → rows ≡ vec_items plan.rows
     → lines_of (hyperperiod ∷ size ∷ jobs ∷ count ∷ []) periods rows ≡ text_of plan
-lines-of-plan plan {periods = periods} h s j n p all r = rw (h, s, j, n, periods_taken plan.tasks plan.periods periods p all, r)
+lines_of_plan plan {periods = periods} h s j n p all r = rw (h, s, j, n, periods_taken plan.tasks plan.periods periods p all, r)
 
 -- They are as long as all together.
 pub lines_length : (numbers periods : List ℕ) (rows : List Row) → length (lines_of numbers periods rows) ≡ length_of numbers periods rows
@@ -33,19 +33,19 @@ lines_length numbers periods rows =
     line_before (codes "plan") numbers (period_lines 0 periods ++ slice_lines rows) ∙ ap (λ n. 4 + length (numbers_text numbers) + 1 + n) (length-append (period_lines 0 periods) (slice_lines rows))
 
 -- They are put one behind the other.
-pub lines-put :
+pub lines_put :
     (numbers periods : List ℕ) (rows : List Row) (before first second periods_tail rows_tail : List ℕ) (a b c : ℕ)
     → second ≡ put_mid a (length first - a) first periods_tail
     → Puts (line_text (codes "plan") numbers) before first a
     → Puts (period_lines 0 periods) (take (length first - a) (drop a first)) periods_tail b
     → Puts (slice_lines rows) (take (length second - (a + b)) (drop (a + b) second)) rows_tail c
     → Puts (lines_of numbers periods rows) before (put_mid (a + b) (length second - (a + b)) second rows_tail) (a + b + c)
-lines-put numbers periods rows before first second periods_tail rows_tail a b c is-second line-put periods-put rows-put =
+lines_put numbers periods rows before first second periods_tail rows_tail a b c is_second line_put periods_put rows_put =
     let line = line_text (codes "plan") numbers in
     let front : Puts (line ++ period_lines 0 periods) before second (a + b) =
-    rw is-second (part_put line (period_lines 0 periods) before first periods_tail a b line-put periods-put) in
+    rw is_second (part_put line (period_lines 0 periods) before first periods_tail a b line_put periods_put) in
     subst (λ text. Puts text before (put_mid (a + b) (length second - (a + b)) second rows_tail) (a + b + c)) (append_assoc line (period_lines 0 periods) (slice_lines rows))
-    (part_put (line ++ period_lines 0 periods) (slice_lines rows) before second rows_tail (a + b) c front rows-put)
+    (part_put (line ++ period_lines 0 periods) (slice_lines rows) before second rows_tail (a + b) c front rows_put)
 
 -- What is put is written where it fits.
 pub text_written : {lines text before after : List ℕ} {n : ℕ} → lines ≡ text → Puts lines before after n → length lines ≤ length before → Written text before after (Ok n)

@@ -115,8 +115,8 @@ module _ (m : Meaning) (stands : Bool) (plan : Plan) (r g i : ℕ) where
 
       -- and so is a frame's end
       pub end_next : (r' g' i' : ℕ) → upcoming_in (vec_items plan.rows) g i ≡ None → (min (g + 1) 4294967295 < plan.frames → (g' ≡ min (g + 1) 4294967295) × (i' ≡ i) × (r' ≡ r)) → (plan.frames ≤ min (g + 1) 4294967295 → (g' ≡ 0) × (i' ≡ 0) × (r' ≡ r + 1)) → (kept : Option Standing) (events : List Event) → StandsAs m stands plan r g i kept events → NextRight m kept events (Came (FrameEnd r g)) × StandsAs m stands plan r' g' i' kept (events ++ FrameEnd r g ∷ [])
-      end_next r' g' i' none on-frame over None events off = absurd (yes_and_no stands on off)
-      end_next r' g' i' none on-frame over (Some k) events (_, h, s, (ceiling, made), at_place) =
+      end_next r' g' i' none on_frame over None events off = absurd (yes_and_no stands on off)
+      end_next r' g' i' none on_frame over (Some k) events (_, h, s, (ceiling, made), at_place) =
           let rows : List Row = vec_items plan.rows in
           let step = place_frame_end rows plan.frames (plan_rows_by_frame m k.figures ceiling plan made) r g i events at_place below none in
           let few : plan.frames ≤ 256 = subst (λ n. n ≤ 256) (sym made.frames) made.size.permitted.few in
@@ -124,7 +124,7 @@ module _ (m : Meaning) (stands : Bool) (plan : Plan) (r g i : ℕ) where
           let after : At r' g' i' =
           ⊎_elim {C = At r' g' i'}
           (λ more.
-          let to = on-frame (omega (arith, at_place.inside)) in
+          let to = on_frame (omega (arith, at_place.inside)) in
           let g_is : g + 1 ≡ g' = omega (arith, to.0, at_place.inside) in
           subst (λ n. At n g' i') (sym to.2) (subst (λ n. At r n i') g_is (subst (λ n. At r (g + 1) n) (sym to.1) (step.0 more))))
           (λ last.

@@ -30,9 +30,9 @@ frames_make_up h f divides = omega (arith, div-add-mod' h f)
 module _ (m : Meaning) (k : Standing) (period : ℕ → ℕ) (r t j ended : ℕ) (some : 1 ≤ k.size) (past : r * k.hyperperiod + (window_in k period t j).end ≤ ended * k.size) where
   -- once the frame ends reach a job's end, no slice of it is in its window
   too_late : (e : ℕ) → ended ≤ e → (s a b : ℕ) → s ≡ r → a ≡ t → b ≡ j → (e + 1) * k.size ≤ s * k.hyperperiod + (window_in k period a b).end → ⊥
-  too_late e later s a b same-repetition same_task same_job ends =
+  too_late e later s a b same_repetition same_task same_job ends =
       let same : s * k.hyperperiod + (window_in k period a b).end ≡ r * k.hyperperiod + (window_in k period t j).end =
-      ap (λ x. x * k.hyperperiod + (window_in k period a b).end) same-repetition
+      ap (λ x. x * k.hyperperiod + (window_in k period a b).end) same_repetition
       ∙ ap (λ x. r * k.hyperperiod + (window_in k period x b).end) same_task
       ∙ ap (λ x. r * k.hyperperiod + (window_in k period t x).end) same_job
       in
@@ -81,14 +81,14 @@ module _ (m : Meaning) (k : Standing) (period : ℕ → ℕ) (rows : List Row) (
 
   -- the slices of each job total its cost over the run
   run_total_cost : (n r t j : ℕ) → r < n → IsJob m k period t j → total r t j (run_events rows (k.hyperperiod / k.size) n) ≡ (figures_at k.figures t).cost
-  run_total_cost n r t j low (task-low, few) =
+  run_total_cost n r t j low (task_low, few) =
       let jobs : List Job = book_jobs m k.figures k.hyperperiod period in
       let js : Jobs = placed jobs in
       let fr : Frames = frames_of k.hyperperiod k.size in
       let found = greedy_exists js fr in
       let G : Gifts = found.0 in
       let finishes : Finishes js fr G = (placing_theorem.finishing js fr).0 largest.fillable G found.1 in
-      let own = job_found k.hyperperiod period (figures_at k.figures) m.count t j task-low few in
+      let own = job_found k.hyperperiod period (figures_at k.figures) m.count t j task_low few in
       let i : ℕ = own.position in
       let task_is : (job_at jobs i).task ≡ t = ap (λ (x : Job). x.task) own.is in
       let job_is : (job_at jobs i).job ≡ j = ap (λ (x : Job). x.job) own.is in
