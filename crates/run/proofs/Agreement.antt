@@ -150,6 +150,20 @@ carries meaning p q call answer same right agrees unaltered =
       unaltered = unaltered;
     }
 
+-- a planner that nothing touched is unaltered
+pub untouched : {B : Type 0} (p : Planner B) → Unaltered p p
+untouched p = record { book = refl; figures = refl; stands = refl; plan = refl; repetition = refl; frame = refl; row = refl }
+
+-- and so it is by any answer
+untouched_if : {B : Type 0} (granted : Bool) (p : Planner B) → AlteredIf granted p p
+untouched_if true p = tt
+untouched_if false p = untouched p
+
+-- a call that leaves the planner and notes nothing is carried on where its answer is right
+pub carries_same : {B : Type 0} (meaning : B → Meaning) (p : Planner B) (call : Call) (answer : Answer) → ((a : Account) → hear a call answer ≡ a) → ((a : Account) → Agrees meaning p a → Right (meaning p.book) a call answer) → Carries meaning p p call answer
+carries_same meaning p call answer same right =
+    carries meaning p p call answer refl right (λ a h. subst (Agrees meaning p) (sym (same a)) h) (untouched_if (is_granted answer) p)
+
 module _ (m : Meaning) (figures : List (Option Figures)) (ceiling : ℕ) (plan : Plan) (made : PlanMade m figures ceiling plan) where
   -- a plan that was made is answered rightly
   pub plan_right : PlanRight m figures ceiling plan.hyperperiod plan.frame_size plan.jobs (length (vec_items plan.rows))
@@ -189,7 +203,3 @@ frame_ended meaning p q ending ends on below none =
       standing = subst (λ b. StandsAs (meaning b) q.stands q.plan q.repetition q.frame q.row a.plan (a.events ++ ending ∷ [])) (sym ends.book) flagged;
     })
     tt
-
--- a planner that nothing touched is unaltered
-pub untouched : {B : Type 0} (p : Planner B) → Unaltered p p
-untouched p = record { book = refl; figures = refl; stands = refl; plan = refl; repetition = refl; frame = refl; row = refl }

@@ -1,19 +1,8 @@
 use Rattle.std.proofs.Common.{◌+◌, ◌-◌, sym, refl, arith}
 use Rattle.std.proofs.lemmas.List.{length-take}
-use Rattle.std.proofs.lemmas.Bool.{lt-ltb, le-ltb}
+use Rattle.std.proofs.lemmas.Bool.{lt-ltb}
 use Rattle.orders.proofs.Pushed.{pushed_held, pushed_rest, pushed_room, pushed_length, pushed_sound}
 use Rattle.orders.proofs.heap.Heap.push.Goals as goal
-
-pub returns-then-self-at : goal.returns-then-self-at
-returns-then-self-at g c = record {
-  full = sym (le-ltb _ _ (simp length-take (omega arith)));
-  held = refl;
-  rest = refl;
-  len = refl;
-  room = refl;
-  sound = λ h. h;
-  lender = refl;
-}
 
 pub returns : goal.returns
 returns g c =

@@ -1,5 +1,5 @@
-use Rattle.std.proofs.Common.{◌-◌, ◌<◌, sym, refl, ◌∙◌, arith}
-use Rattle.std.proofs.lemmas.List.{length-take, nil_from_length}
+use Rattle.std.proofs.Common.{◌-◌, ◌<◌, refl, ◌∙◌, arith}
+use Rattle.std.proofs.lemmas.List.{length-take}
 use Rattle.orders.proofs.Taken.{taken_held, taken_least, taken_rest, taken_length, taken_room, taken_sound}
 use Rattle.orders.proofs.heap.Heap.take.Goals as goal
 
@@ -7,19 +7,6 @@ pub slice_bounds-retire_first-end : goal.slice_bounds-retire_first-end
 slice_bounds-retire_first-end g c =
     let count = c.len-count.ensures ∙ length-take c.args.self.now.len c.args.self.now.slots.now in
     omega arith
-
-pub returns-then-count-eq0 : goal.returns-then-count-eq0
-returns-then-count-eq0 g c =
-    let none = sym c.len-count.ensures ∙ c.if-count-eq0.true in
-    record {
-      held = (nil_from_length _ none, refl);
-      least = tt;
-      rest = tt;
-      len = none;
-      room = refl;
-      sound = λ h. h;
-      lender = refl;
-    }
 
 pub returns : goal.returns
 returns g c =
