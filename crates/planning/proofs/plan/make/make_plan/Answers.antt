@@ -1,7 +1,8 @@
-use Rattle.std.proofs.Common.{◌≡◌, ℕ, get_or, vec_items, refl, ap, ◌∙◌, inl, inr, arith}
+use Rattle.std.proofs.Common.{◌≡◌, ℕ, get_or, vec_items, Some, sym, subst, refl, ap, ◌∙◌, inl, inr, arith}
 use Rattle.books.specs.Meaning.{Meaning}
 use Rattle.planning.specs.Charges.{figures_at}
 use Rattle.planning.specs.Plans.{Prepared, book_jobs, jobs_in}
+use Rattle.planning.specs.SizeFound.{SizeFound}
 use Rattle.planning.specs.Windows.{jobs_of}
 use Rattle.planning.proofs.LeastWork.{chosen_least_work}
 use Rattle.planning.proofs.plan.make.make_plan.Given as given
@@ -68,6 +69,7 @@ pub returns : goal.returns
 returns g c =
     let at = (goal.at.returns g c).After-count_jobs-jobs in
     let found = rw (listed g (goal.at.returns g c).After-list_jobs) at c.in-Some.ensures.found in
+    let swapped : vec_items c.swap.new.x ≡ vec_items c.largest_size.new.space.rows = ap vec_items c.swap.ensures.x_after in
     record {
       tasks = c.count-tasks.ensures.value;
       prepared = prepared g at;
@@ -76,5 +78,5 @@ returns g c =
       few = c.if-jobs-gt1024.false;
       size = found.0;
       frames = refl;
-      rows = simp (ap vec_items c.swap.ensures.x_after) found.1;
+      rows = (subst (λ rows. SizeFound (book_jobs (meant g at) c.args.figures.now c.in_ok-hyperperiod.hyperperiod (period g at)) c.in_ok-hyperperiod.hyperperiod rows (Some c.in-Some.frame_size)) (sym swapped) found).1;
     }
