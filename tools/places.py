@@ -16,7 +16,7 @@ NAME = r"[A-Za-z_]\w*"
 
 LINES = {
     1: r"^\s+(pub(\([a-z]+\))? )?\w+: bool,|Result<Result|Ok\(Err|Ok\(Ok|=> (return )?Err\((?!\w+::)|Err\(\w+\) => Answer|None => (return )?Err\(|cost == 0",
-    4: r"fn (eq|cmp|partial_cmp|at_most|clone|fmt|from|try_from|default)\b|fn (number|kind|line|field|place)\(self\) -> u32|^\s+let (\w+) = [\w.]+\.\2(\(\))?;$|^\s+(e?print(ln)?!\(rt; .*\{)|=> (e?print(ln)?!\(rt; .*\{)",
+    4: r"fn (eq|cmp|partial_cmp|at_most|clone|fmt|from|try_from|default)\b|fn (number|kind|line|field|place)\(self\) -> u32|^\s+let (?P<name>\w+) = [\w.]+\.(?P=name)(\(\))?;$|^\s+(e?print(ln)?!\(rt; .*\{)|=> (e?print(ln)?!\(rt; .*\{)",
     6: r"^\s+(pub(\([a-z]+\))? )?(len|count|used|tasks): (usize|u32),$|: (&mut |&)?\[\w+(<[^>]*>)?; [0-9]+\](,|\)|$)|: &mut \[\w+\],$",
     7: r"\bdyn |: fn\(|\[fn\(|match (self\.)?(step|stage|phase|state|mode)\b",
 }
@@ -35,7 +35,7 @@ def functions(path):
         end = text.find("\n" + indent + "}", head_end)
         head = text[found.start():head_end]
         body = text[head_end:end] if end != -1 else ""
-        parameters = re.search(r"\(([^{}]*?)\)\s*(->|where|requires|ensures|$|\n)", head, re.S)
+        parameters = re.search(r"fn %s(?:<[^()]*(?:\([^()]*\)[^()]*)*>)?\(([^{}]*?)\)\s*(->|where|requires|ensures|$|\n)" % name, head, re.S)
         yield name, text[:found.start()].count("\n") + 1, parameters.group(1) if parameters else "", re.findall(r"^\s*(?:requires|ensures)[^{]*\{(.*)\}$", head, re.M), body
 
 

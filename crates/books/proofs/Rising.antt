@@ -1,24 +1,52 @@
-use Rattle.std.proofs.Common.{◌≡◌, ℕ, zero, suc, ◌+◌, ◌<◌, ◌≤◌, true, List, get_or, take, ⊎_elim, add-one, arith}
-use Rattle.std.proofs.lemmas.Bool.{cases_lt}
+use Rattle.std.proofs.Common.{◌≡◌, ℕ, suc, ◌<◌, ◌≤◌, true, eqb, leb, Option, List, [], ◌∷◌, length, get_or, Some, None, ⊎_elim, sym, refl, subst, add-one, arith}
+use Rattle.std.specs.Prelude.{find}
+use Rattle.std.proofs.lemmas.Bool.{cases_lt, cond-true, cond-false, eqb-true, eq-eqb, ne_eqb, le-leb, lt-leb, or_cases, or_left, or_right}
+use Rattle.std.proofs.lemmas.Bool.Decides.{nat_tests}
+use Rattle.std.proofs.lemmas.List.{get_or-take, length-take}
+use Rattle.books.specs.Meaning.{LeastFrom}
+use Rattle.books.specs.Periods.{Lawful, periods_of}
 use Rattle.books.specs.Sets.{is_among}
-use Rattle.books.proofs.Among.{place_of_among}
+use Rattle.books.specs.declared.list_book.PeriodRow.{PeriodRow}
 
--- Where each number is above the one before it, none is below an earlier one.
-pub rises_far : (xs : List ℕ) (n : ℕ) → ((k : ℕ) → k + 1 < n → get_or xs k 0 < get_or xs (k + 1) 0) → (j k : ℕ) → j ≤ k → k < n → get_or xs j 0 ≤ get_or xs k 0
-rises_far xs n up j zero le below = let e : j ≡ 0 = omega arith in rw e (omega arith)
-rises_far xs n up j (suc k) le below =
-    ⊎_elim
-    (λ (less : j < suc k).
-    let step : get_or xs k 0 < get_or xs (suc k) 0 = rw add-one at (up k (omega arith)) in
-    omega (arith, rises_far xs n up j k (omega arith) (omega arith)))
-    (λ (more : suc k ≤ j). let e : j ≡ suc k = omega arith in rw e (omega arith))
-    (cases_lt j (suc k))
+-- Each number of the list but the first is above the one before it.
+abbrev Rises : List ℕ → Type 0
+Rises xs = (k : ℕ) → suc k < length xs → get_or xs k 0 < get_or xs (suc k) 0
 
--- In a rising list the first number at or above `from` is the least of those that are.
-pub first_is_least : (xs : List ℕ) (n from k : ℕ) → ((i : ℕ) → i + 1 < n → get_or xs i 0 < get_or xs (i + 1) 0) → ((i : ℕ) → i < k → get_or xs i 0 < from) → k < n → (p : ℕ) → from ≤ p → p < get_or xs k 0 → is_among (take n xs) p ≡ true → ⊥
-first_is_least xs n from k up before below p low high among =
-    let place = place_of_among n xs p among in
+-- In a rising list none is below the first.
+first_lowest : (x : ℕ) (xs : List ℕ) (n : ℕ) → Rises (x ∷ xs) → is_among (x ∷ xs) n ≡ true → x ≤ n
+first_lowest x [] n up among = grind (arith, nat_tests)
+first_lowest x (y ∷ ys) n up among =
     ⊎_elim
-    (λ less. omega (arith, before place.0 less, place.2))
-    (λ more. omega (arith, rises_far xs n up k place.0 more place.1, place.2))
-    (cases_lt place.0 k)
+    (λ here. omega (arith, eqb-true x n here))
+    (λ later. omega (arith, up 0 (omega arith), first_lowest y ys n (λ k below. up (suc k) (omega arith)) later))
+    (or_cases (eqb x n) (is_among (y ∷ ys) n) among)
+
+skipped : (x : ℕ) (xs : List ℕ) (from n : ℕ) → x < from → from ≤ n → is_among (x ∷ xs) n ≡ true → is_among xs n ≡ true
+skipped x xs from n less low among = rw (ne_eqb x n (λ same. omega arith)) at among
+
+-- A number below `from` in front of a list changes nothing from there on.
+behind : (x : ℕ) (xs : List ℕ) (from : ℕ) → x < from → (r : Option ℕ) → LeastFrom (is_among xs) from r → LeastFrom (is_among (x ∷ xs)) from r
+behind x xs from less None none = λ n low among. none n low (skipped x xs from n less low among)
+behind x xs from less (Some p) h = (
+  h.0,
+  or_right (eqb x p) (is_among xs p) h.1,
+  λ n low below among. h.2 n low below (skipped x xs from n less low among),
+)
+
+-- In a rising list the first number at or above `from` is the least that is.
+first_is_least : (from : ℕ) (xs : List ℕ) → Rises xs → LeastFrom (is_among xs) from (find (λ p. leb from p) xs)
+first_is_least from [] up = λ n low among. grind (arith, nat_tests)
+first_is_least from (x ∷ xs) up =
+    ⊎_elim
+    (λ (less : x < from). subst (LeastFrom (is_among (x ∷ xs)) from) (sym (cond-false (leb from x) (Some x) (find (λ p. leb from p) xs) (lt-leb from x less))) (behind x xs from less _ (first_is_least from xs (λ k below. up (suc k) (omega arith)))))
+    (λ (more : from ≤ x). subst (LeastFrom (is_among (x ∷ xs)) from) (sym (cond-true (leb from x) (Some x) (find (λ p. leb from p) xs) (le-leb from x more))) (more, or_left (eqb x x) (is_among xs x) (eq-eqb x x refl), λ n low below among. omega (arith, first_lowest x xs n up among)))
+    (cases_lt x from)
+
+-- So it is in a lawful row.
+pub least_of_row : (row : PeriodRow) (from : ℕ) → Lawful row → LeastFrom (is_among (periods_of row)) from (find (λ p. leb from p) (periods_of row))
+least_of_row row from lawful =
+    first_is_least from (periods_of row)
+    (λ k below.
+    let here : suc k < row.len = omega (arith, length-take row.len row.periods) in
+    rw (get_or-take row.len row.periods k 0 (omega arith), get_or-take row.len row.periods (suc k) 0 here)
+    (rw add-one at (lawful.rising k (omega arith))))

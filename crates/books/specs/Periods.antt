@@ -20,3 +20,9 @@ AllPeriods row = (k : ℕ) → k < row.len → is_a_period (slice_index row.peri
 -- Each but the first is above the one before it.
 abbrev pub StrictlyRising : PeriodRow → Type 0
 StrictlyRising row = (k : ℕ) → k + 1 < row.len → slice_index row.periods k < slice_index row.periods (k + 1)
+
+-- A row is lawful if it holds one to eight periods, strictly rising.
+pub record Lawful (row : PeriodRow) : Type 0 where
+  pub counted : OneToEight row
+  pub bounded : AllPeriods row
+  pub rising : StrictlyRising row

@@ -1,8 +1,10 @@
-use Rattle.std.specs.Prelude.{◌≡◌, ℕ, ◌+◌, ◌-◌, ◌%◌, min, max, Bool, false, cond, ◌&&◌, ◌||◌, List, [], ◌∷◌, ◌==◌, nat_le, nat_lt, slice_index_or}
+use Rattle.std.specs.Prelude.{◌≡◌, ℕ, ◌+◌, ◌-◌, ◌%◌, min, max, Bool, false, cond, ◌&&◌, List, [], ◌==◌, nat_le, nat_lt, slice_index_or}
+use Rattle.std.specs.List.{list_any}
 use Rattle.books.specs.Meaning.{Meaning}
 use Rattle.books.specs.Periods.{periods_of}
 use Rattle.books.specs.declared.grid.Grid.{Grid}
 use Rattle.books.specs.declared.list_book.ListBook.{ListBook}
+use Rattle.books.specs.declared.list_book.PeriodRow.{PeriodRow}
 use Rattle.books.specs.declared.range_book.PeriodRange.{PeriodRange}
 use Rattle.books.specs.declared.range_book.RangeBook.{RangeBook}
 use Rattle.books.specs.declared.side_by_side.SideBySide.{SideBySide}
@@ -24,12 +26,15 @@ ranges_of b = record {
 
 -- A period is among those listed.
 abbrev pub is_among : List ℕ → ℕ → Bool
-is_among [] period = false
-is_among (listed ∷ rest) period = listed == period || is_among rest period
+is_among periods period = list_any (λ listed. listed == period) periods
+
+-- The row that a book of lists holds for a task.
+abbrev pub row_at : ListBook → ℕ → PeriodRow
+row_at b task = slice_index_or b.rows task (record { periods = []; len = 0 })
 
 -- The periods that a book of lists holds for a task.
 abbrev pub periods_at : ListBook → ℕ → List ℕ
-periods_at b task = periods_of (slice_index_or b.rows task (record { periods = []; len = 0 }))
+periods_at b task = periods_of (row_at b task)
 
 -- A book of lists allows each of its tasks the periods written for it.
 abbrev pub lists_of : ListBook → Meaning

@@ -11,16 +11,24 @@ pub enum EntryFault {
 }
 
 impl EntryFault {
+    // The number by which the rules know the refusal, for those who print it, and the field at fault, or 0
+    // where it is the entry as a whole: code matches on the cases.
+    fn number_and_field(self) -> (u32, u32)
+        ensures { result ≡ ((refusal self).number, (refusal self).field) }
+    {
+        match self {
+            EntryFault::PeriodCount => (14, 0),
+            EntryFault::NumberOutOfRange { field } => (16, field),
+            EntryFault::NotRising { field } => (17, field),
+            EntryFault::TooManyTasks => (18, 0),
+        }
+    }
+
     // The number by which the refusal is known.
     pub fn number(self) -> u32
         ensures value { result ≡ (refusal self).number }
     {
-        match self {
-            EntryFault::PeriodCount => 14,
-            EntryFault::NumberOutOfRange { .. } => 16,
-            EntryFault::NotRising { .. } => 17,
-            EntryFault::TooManyTasks => 18,
-        }
+        self.number_and_field().0
     }
 
     // An entry given in numbers stands on no line.
@@ -34,9 +42,6 @@ impl EntryFault {
     pub fn field(self) -> u32
         ensures value { result ≡ (refusal self).field }
     {
-        match self {
-            EntryFault::NumberOutOfRange { field } | EntryFault::NotRising { field } => field,
-            EntryFault::PeriodCount | EntryFault::TooManyTasks => 0,
-        }
+        self.number_and_field().1
     }
 }

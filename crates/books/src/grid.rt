@@ -1,11 +1,12 @@
-ghost use Rattle.std.specs.Prelude.{◌≡◌, ℕ, ◌%◌, ◌<◌, ◌≤◌, ◌≢◌};
+ghost use Rattle.std.specs.Prelude.{◌≡◌};
 ghost use Rattle.books.specs.Sets.{gridded, gridded_of};
+ghost use Rattle.std.proofs.Common.{rules};
 
 use crate::book::Book;
 use crate::period::LONGEST_PERIOD;
 
 // The periods of another book that are multiples of a step. Step 0 counts as 1.
-#[derive(Clone, Copy, Drop)]
+#[derive(Clone, Copy, Debug, Drop, PartialEq, Eq)]
 pub struct Grid<B> {
     book: B,
     step: u32,
@@ -21,24 +22,10 @@ impl<B: Book> Grid<B> {
     }
 }
 
-// The least multiple of the step at or above a number that is no larger than the longest period.
-fn round_up(number: u32, step: u32) -> u32
-    requires bounded { number ≤ 200000 }
-    requires stepped { (1 ≤ step) × (step ≤ 200000) }
-    ensures above { number ≤ result }
-    ensures multiple { result % step ≡ 0 }
-    ensures least { (n : ℕ) → number ≤ n → n < result → n % step ≢ 0 }
-{
-    let past = number % step;
-    if past == 0 {
-        number
-    } else {
-        number + (step - past)
-    }
-}
-
 impl<B: Book> Book for Grid<B> {
     ghost means = { gridded_of B.Book.means };
+
+    ghost fair = { Prim.search rules };
 
     fn count(&self) -> u32 {
         self.book.count()
@@ -48,6 +35,7 @@ impl<B: Book> Book for Grid<B> {
         self.book.allows(task, period) && period % self.step.max(1) == 0
     }
 
+    #[tactic(auto, using(crate::proofs::Multiples::no_multiple_between))]
     fn next_allowed(&self, task: u32, from: u32) -> Option<u32> {
         let step = self.step.max(1);
         if step == 1 {
@@ -57,10 +45,10 @@ impl<B: Book> Book for Grid<B> {
         if task >= self.book.count() || step > LONGEST_PERIOD {
             return None;
         }
-        // Between two multiples there is nothing to ask.
+        // A `while`, since each turn goes past the period that the book gave, to the next multiple.
         let mut at = from;
         while at <= LONGEST_PERIOD {
-            let asked = round_up(at, step);
+            let asked = at.next_multiple_of(step);
             let period = self.book.next_allowed(task, asked)?;
             if period == asked || period % step == 0 {
                 return Some(period);

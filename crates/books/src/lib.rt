@@ -9,6 +9,7 @@ pub mod grid;
 pub mod list_book;
 mod period;
 pub mod range_book;
+mod shown;
 pub mod side_by_side;
 
 pub use book::Book;

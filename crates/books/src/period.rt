@@ -7,5 +7,5 @@ pub(crate) const LONGEST_PERIOD: u32 = 200_000;
 pub(crate) fn is_period(number: u32) -> bool
     ensures value { result ≡ is_a_period number }
 {
-    1 <= number && number <= LONGEST_PERIOD
+    (1..=LONGEST_PERIOD).contains(&number)
 }

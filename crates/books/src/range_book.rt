@@ -3,14 +3,16 @@ ghost use Rattle.std.specs.Prelude.{ℕ, ◌<◌, ◌≤◌, slice_index_or};
 pub mod calls;
 
 // The periods from `low` to `high`.
-#[derive(Clone, Copy)]
+#[derive(Clone, Copy, Debug, PartialEq, Eq)]
 struct PeriodRange {
     low: u32,
     high: u32,
 }
 
 // A book that allows each task one range of periods. The places not in use hold the range 1 to 1.
-#[derive(Clone, Copy)]
+// An array with a count beside it, since the book is copied and a vector is not; and no table in
+// common with the book of lists, since each book's invariant is of its own plain rows.
+#[derive(Clone, Copy, Debug, PartialEq, Eq)]
 pub struct RangeBook {
     ranges: [PeriodRange; 16],
     used: usize,

@@ -17,11 +17,11 @@ use Rattle.printer.specs.declared.refusal.PrintRefusal.{PrintRefusal}
 use Rattle.console.specs.Answers.{Told}
 
 -- A planner that is ready prints the text of the plan that the two sheets get.
-pub plan_told : (ranges lists : List ℕ) (step ceiling : ℕ) (granted : Granted) (p : Planner (Grid (SideBySide RangeBook ListBook))) (before after : List ℕ) (answer : Result ℕ PrintRefusal)
+pub plan_told : {ranges lists : List ℕ} {step ceiling : ℕ} {granted : Granted} {p : Planner (Grid (SideBySide RangeBook ListBook))} (before after : List ℕ) (answer : Result ℕ PrintRefusal)
     → Ready ranges lists step ceiling granted p
     → ((a : Account) → Agrees book_means p a → PlanPrinted (book_means p.book) a.plan before after answer)
     → (text : List ℕ) × Told ranges lists step ceiling text × Written text before after answer
-plan_told ranges lists step ceiling granted p before after answer ready prints =
+plan_told {granted = granted} {p = p} before after answer ready prints =
     let kept : Standing = record { hyperperiod = granted.hyperperiod; size = granted.frame_size; figures = ready.stands.0 } in
     let printed = subst (λ plan. PlanPrinted (book_means p.book) plan before after answer) ready.stands.1 (prints ready.account ready.agrees) in (
       printed.0,

@@ -1,5 +1,4 @@
 use Rattle.std.specs.Prelude.{◌≡◌, ℕ, ◌⊎◌, List, Some, Ok, Err, Result}
-use Rattle.std.specs.declared.alloc.AllocError.{AllocError}
 use Rattle.run.specs.Account.{Account, Standing}
 use Rattle.run.specs.Agrees.{planned}
 use Rattle.run.specs.declared.planner.calls.Granted.{Granted}
@@ -8,7 +7,8 @@ use Rattle.prepare.specs.Prepared.{FaultDue, SheetsCarried, sheets_meaning}
 use Rattle.prepare.specs.declared.fault.PrepareFault.{PrepareFault}
 use Rattle.printer.specs.Printed.{TextOf, Written}
 use Rattle.printer.specs.Text.{refused_line}
-use Rattle.printer.specs.declared.refusal.PrintRefusal.{PrintRefusal}
+use Rattle.console.specs.declared.error.AnswerError.{AnswerError}
+use Rattle.console.specs.declared.error.AnswerError.TheVariants.{Memory, Printing}
 
 -- The text of the plan that two sheets get: the calls that they ask for end with a plan that is granted, and the text
 -- is that of the plan which then stands.
@@ -32,6 +32,7 @@ Told ranges lists step ceiling text = PlanTold ranges lists step ceiling text �
 
 -- The answer to two sheets, and the buffer afterwards: their text, printed. Where memory is wanting the buffer is as
 -- it was.
-abbrev pub Answered : List ℕ → List ℕ → ℕ → ℕ → List ℕ → List ℕ → Result (Result ℕ PrintRefusal) AllocError → Type 0
-Answered ranges lists step ceiling before after (Ok answer) = (text : List ℕ) × Told ranges lists step ceiling text × Written text before after answer
-Answered ranges lists step ceiling before after (Err wanting) = after ≡ before
+abbrev pub Answered : List ℕ → List ℕ → ℕ → ℕ → List ℕ → List ℕ → Result ℕ AnswerError → Type 0
+Answered ranges lists step ceiling before after (Ok n) = (text : List ℕ) × Told ranges lists step ceiling text × Written text before after (Ok n)
+Answered ranges lists step ceiling before after (Err (Printing refusal)) = (text : List ℕ) × Told ranges lists step ceiling text × Written text before after (Err refusal)
+Answered ranges lists step ceiling before after (Err (Memory wanting)) = after ≡ before

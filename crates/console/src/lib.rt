@@ -4,11 +4,14 @@
 
 ghost use Rattle.console.specs.Answers.{Answered};
 
-use prepare::{blank, prepare};
-use printer::{PrintRefusal, print, print_notice};
-use std::alloc::{AllocError, Global};
+pub mod error;
 
-// Prints into the buffer the plan of the tasks that the two sheets tell, or the refusal.
+pub use error::AnswerError;
+use prepare::{PrepareError, blank, prepare};
+use printer::{print, print_notice};
+use std::alloc::Global;
+
+// Prints into the buffer, which is its caller's, the plan of the tasks that the two sheets tell, or the refusal.
 pub fn answer(
     heap: Global,
     ranges: &[u8],
@@ -16,12 +19,14 @@ pub fn answer(
     step: u32,
     ceiling: u32,
     out: &mut [u8],
-) -> Result<Result<usize, PrintRefusal>, AllocError>
+) -> Result<usize, AnswerError>
     ensures { Answered ranges.now lists.now step ceiling out.old out.new result }
 {
     let mut planner = blank(heap)?;
-    match prepare(heap, ranges, lists, step, ceiling, &mut planner)? {
-        Ok(_) => Ok(print(&planner, out)),
-        Err(fault) => Ok(print_notice(fault.notice(), out)),
+    match prepare(heap, ranges, lists, step, ceiling, &mut planner) {
+        Ok(_) => Ok(print(&planner, out)?),
+        Err(PrepareError::Fault(fault)) => Ok(print_notice(fault.notice(), out)?),
+        // By hand, since the other case of the error is answered here.
+        Err(PrepareError::Memory(wanting)) => Err(wanting.into()),
     }
 }

@@ -5,26 +5,19 @@
 mod cases;
 
 use crate::cases::CASES;
-use console::answer;
+use console::{AnswerError, answer};
 use sheets::name_of;
 use std::io;
 use std::io::Write;
 use std::process::ExitCode;
 
 fn main(rt: HostRuntime) -> ExitCode {
-    match run(&rt) {
-        Ok(()) => ExitCode::SUCCESS,
-        Err(error) => {
-            let _ = eprintln!(rt; "damaged: {error}");
-            ExitCode::FAILURE
-        }
-    }
+    programs::exit_code(&rt, "damaged", run(&rt))
 }
 
 fn run(rt: &HostRuntime) -> anyhow::Result<()> {
     for case in &CASES {
-        let name = case.name;
-        println!(rt; "{name}")?;
+        println!(rt; "{}", case.name)?;
         show(rt, case.ranges, case.lists)?;
     }
     println!(rt; "a sheet of 4097 bytes")?;
@@ -34,6 +27,11 @@ fn run(rt: &HostRuntime) -> anyhow::Result<()> {
     println!(rt; "a buffer that is too short")?;
     let mut text = [0; 15];
     tell(rt, &mut text, b"range,pulse,4,5,1,4\n", b"")?;
+    names(rt)?;
+    Ok(())
+}
+
+fn names(rt: &HostRuntime) -> io::Result<()> {
     println!(rt; "the names of tasks 0 to 3")?;
     for task in 0..4 {
         name(rt, task)?;
@@ -48,12 +46,11 @@ fn show(rt: &HostRuntime, ranges: &[u8], lists: &[u8]) -> anyhow::Result<()> {
 
 // The answer to the two sheets, on a grid of 1 up to the ceiling 1,000,000.
 fn tell(rt: &HostRuntime, text: &mut [u8], ranges: &[u8], lists: &[u8]) -> anyhow::Result<()> {
-    match answer(rt.alloc(), ranges, lists, 1, 1_000_000, text)? {
+    match answer(rt.alloc(), ranges, lists, 1, 1_000_000, text) {
         Ok(len) => rt.stdout().write_all(&text[..len])?,
-        Err(refusal) => {
-            let number = refusal.number();
-            println!(rt; "not printed: {number}")?;
-        }
+        Err(AnswerError::Printing(refusal)) => println!(rt; "not printed: {}", refusal.number())?,
+        // By hand, since the other case of the error is answered here.
+        Err(AnswerError::Memory(wanting)) => return Err(wanting.into()),
     }
     Ok(())
 }

@@ -5,23 +5,16 @@ mod answer;
 mod layers;
 mod singles;
 
-use planning::{Plan, Workspace};
+use programs::PlanSpace;
 use std::process::ExitCode;
 
 fn main(rt: HostRuntime) -> ExitCode {
-    match run(&rt) {
-        Ok(()) => ExitCode::SUCCESS,
-        Err(error) => {
-            let _ = eprintln!(rt; "figures: {error}");
-            ExitCode::FAILURE
-        }
-    }
+    programs::exit_code(&rt, "figures", run(&rt))
 }
 
 fn run(rt: &HostRuntime) -> anyhow::Result<()> {
-    let mut space = Workspace::new(rt.alloc())?;
-    let mut plan = Plan::none(rt.alloc())?;
-    singles::try_all(rt, &mut space, &mut plan)?;
-    layers::try_all(rt, &mut space, &mut plan)?;
+    let mut space = PlanSpace::new(rt.alloc())?;
+    singles::try_all(rt, &mut space)?;
+    layers::try_all(rt, &mut space)?;
     Ok(())
 }

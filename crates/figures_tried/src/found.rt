@@ -2,7 +2,8 @@
 
 use crate::figure::Asked;
 use books::Book;
-use planning::{Plan, Refusal, Row, chosen_period};
+use planning::{Plan, Refusal, chosen_period};
+use programs::Lines;
 use std::alloc::{AllocError, Global};
 
 // The hyperperiod with the chosen period of each task.
@@ -21,43 +22,15 @@ pub(crate) fn hyperperiod<B: Book>(
     Ok(text)
 }
 
-// The numbers of the plan and, where the table is asked, its periods and its rows, in lines.
+// The numbers of the plan or, where the table is asked, all of its lines.
 pub(crate) fn plan(heap: Global, plan: &Plan, asked: Asked) -> Result<String, AllocError> {
-    let hyperperiod = plan.hyperperiod();
-    let size = plan.frame_size();
-    let jobs = plan.jobs();
-    let rows = plan.row_count();
-    let mut text = format!(in heap; "plan,{hyperperiod},{size},{jobs},{rows}\n")?;
-    if let Asked::Table = asked {
-        add_periods(heap, &mut text, plan.periods())?;
-        add_slices(heap, &mut text, plan.rows())?;
+    match asked {
+        Asked::Table => format!(in heap; "{}", Lines(plan)),
+        Asked::Hyperperiod | Asked::Plan => format!(in heap; "plan,{plan}\n"),
     }
-    Ok(text)
-}
-
-fn add_periods(heap: Global, text: &mut String, periods: &[u32]) -> Result<(), AllocError> {
-    for (task, period) in periods.iter().enumerate() {
-        text.push_str(format!(in heap; "period,{task},{period}\n")?.as_str())?;
-    }
-    Ok(())
-}
-
-fn add_slices(heap: Global, text: &mut String, rows: &[Row]) -> Result<(), AllocError> {
-    for row in rows {
-        let Row {
-            frame,
-            task,
-            job,
-            length,
-        } = *row;
-        text.push_str(format!(in heap; "slice,{frame},{task},{job},{length}\n")?.as_str())?;
-    }
-    Ok(())
 }
 
 // The number of the question that got a no, and its place.
 pub(crate) fn refused(heap: Global, refusal: Refusal) -> Result<String, AllocError> {
-    let number = refusal.number();
-    let place = refusal.place();
-    format!(in heap; "refused,{number},{place}\n")
+    format!(in heap; "refused,{refusal}\n")
 }

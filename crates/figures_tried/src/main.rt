@@ -12,25 +12,18 @@ use crate::sample::try_sample;
 use crate::table::FIGURES;
 use crate::trial::try_figure;
 use anyhow::anyhow;
-use planning::{Plan, Workspace};
+use programs::PlanSpace;
 use std::process::ExitCode;
 
 fn main(rt: HostRuntime) -> ExitCode {
-    match run(&rt) {
-        Ok(()) => ExitCode::SUCCESS,
-        Err(error) => {
-            let _ = eprintln!(rt; "figures_tried: {error}");
-            ExitCode::FAILURE
-        }
-    }
+    programs::exit_code(&rt, "figures_tried", run(&rt))
 }
 
 fn run(rt: &HostRuntime) -> anyhow::Result<()> {
-    let mut space = Workspace::new(rt.alloc())?;
-    let mut plan = Plan::none(rt.alloc())?;
+    let mut space = PlanSpace::new(rt.alloc())?;
     let mut all = true;
     for figure in &FIGURES {
-        all &= try_figure(rt, figure, &mut space, &mut plan)?;
+        all &= try_figure(rt, figure, &mut space)?;
     }
     all &= try_sample(rt)?;
     if !all {

@@ -2,7 +2,7 @@
 
 use crate::table::EXAMPLE;
 use crate::trial::compare;
-use console::answer;
+use console::{AnswerError, answer};
 use std::io::Write;
 
 const RANGES: &[u8] = b"class,pulse,P,1,4\nrange,zones,11,12,3,12\n";
@@ -15,12 +15,13 @@ pub(crate) fn try_sample(rt: &HostRuntime) -> anyhow::Result<bool> {
     rt.stdout().write_all(RANGES)?;
     rt.stdout().write_all(LISTS)?;
     let mut text = [0; 1024];
-    match answer(rt.alloc(), RANGES, LISTS, 1, 1_000_000, &mut text)? {
+    match answer(rt.alloc(), RANGES, LISTS, 1, 1_000_000, &mut text) {
         Ok(len) => Ok(compare(rt, &text[..len], EXAMPLE)?),
-        Err(refusal) => {
-            let number = refusal.number();
-            println!(rt; "NOT as stored: not printed, {number}")?;
+        Err(AnswerError::Printing(refusal)) => {
+            println!(rt; "NOT as stored: not printed, {}", refusal.number())?;
             Ok(false)
         }
+        // By hand, since the other case of the error is answered here.
+        Err(AnswerError::Memory(wanting)) => Err(wanting.into()),
     }
 }

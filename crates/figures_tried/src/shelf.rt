@@ -1,6 +1,6 @@
 // The books that a figure's tasks are entered in.
 
-use crate::figure::{Periods, Task};
+use crate::figure::Periods;
 use books::{Book, ListBook, RangeBook};
 
 // Lists may stand before the ranges and behind them.
@@ -19,8 +19,7 @@ impl Shelf {
         }
     }
 
-    pub(crate) fn add(&mut self, task: Task) {
-        let Task(periods, _, _) = task;
+    pub(crate) fn add(&mut self, periods: Periods) {
         match periods {
             Periods::Only(period) => self.add_list(&[period]),
             Periods::List(periods) => self.add_list(periods),

@@ -1,9 +1,31 @@
 // The worked figures.
 
 use crate::figure::Periods::{List, Only, Range};
-use crate::figure::{Asked, Figure, Task};
+use crate::figure::{Asked, Figure};
+use planning::Figures;
+use programs::Task;
 
 const MOST: u32 = 1_000_000;
+
+// A task by its periods and, if it has figures, its cost and its deadline. A constant's value calls no
+// function, so a macro writes it.
+macro_rules! task {
+    ($periods:expr) => {
+        Task {
+            periods: $periods,
+            figures: None,
+        }
+    };
+    ($periods:expr, $cost:expr, $deadline:expr) => {
+        Task {
+            periods: $periods,
+            figures: Some(Figures {
+                cost: $cost,
+                deadline: $deadline,
+            }),
+        }
+    };
+}
 
 // The plan of two ranges beside a list, which the main program's sample also gives.
 pub(crate) const EXAMPLE: &[u8] = b"plan,12,2,6,9
@@ -25,9 +47,9 @@ pub(crate) const FIGURES: [Figure; 21] = [
     // The deadline 7 counts as 5.
     Figure {
         tasks: &[
-            Task(Only(4), 1, 4),
-            Task(Only(5), 2, 7),
-            Task(Only(20), 5, 20),
+            task!(Only(4), 1, 4),
+            task!(Only(5), 2, 7),
+            task!(Only(20), 5, 20),
         ],
         step: 1,
         ceiling: MOST,
@@ -35,28 +57,28 @@ pub(crate) const FIGURES: [Figure; 21] = [
         stored: b"plan,20,2,10,16\n",
     },
     Figure {
-        tasks: &[Task(Only(2), 1, 2), Task(Only(4), 2, 4)],
+        tasks: &[task!(Only(2), 1, 2), task!(Only(4), 2, 4)],
         step: 1,
         ceiling: MOST,
         asked: Asked::Plan,
         stored: b"plan,4,2,3,4\n",
     },
     Figure {
-        tasks: &[Task(Only(2), 1, 2), Task(Only(3), 2, 3)],
+        tasks: &[task!(Only(2), 1, 2), task!(Only(3), 2, 3)],
         step: 1,
         ceiling: MOST,
         asked: Asked::Plan,
         stored: b"refused,9,0\n",
     },
     Figure {
-        tasks: &[Task(Only(4), 3, 3)],
+        tasks: &[task!(Only(4), 3, 3)],
         step: 1,
         ceiling: MOST,
         asked: Asked::Plan,
         stored: b"plan,4,1,1,3\n",
     },
     Figure {
-        tasks: &[Task(Only(4), 3, 2)],
+        tasks: &[task!(Only(4), 3, 2)],
         step: 1,
         ceiling: MOST,
         asked: Asked::Plan,
@@ -64,14 +86,14 @@ pub(crate) const FIGURES: [Figure; 21] = [
     },
     // 257 is a prime: one frame is longer than the window, and 257 frames are too many.
     Figure {
-        tasks: &[Task(Only(257), 1, 256)],
+        tasks: &[task!(Only(257), 1, 256)],
         step: 1,
         ceiling: MOST,
         asked: Asked::Plan,
         stored: b"refused,9,0\n",
     },
     Figure {
-        tasks: &[Task(Only(256), 1, 255)],
+        tasks: &[task!(Only(256), 1, 255)],
         step: 1,
         ceiling: MOST,
         asked: Asked::Plan,
@@ -79,7 +101,7 @@ pub(crate) const FIGURES: [Figure; 21] = [
     },
     // 1,024 jobs pass question 8, and question 9 gets a no: no permitted frame is as short as 1.
     Figure {
-        tasks: &[Task(Only(1), 1, 1), Task(Only(1023), 1, 1023)],
+        tasks: &[task!(Only(1), 1, 1), task!(Only(1023), 1, 1023)],
         step: 1,
         ceiling: MOST,
         asked: Asked::Plan,
@@ -87,14 +109,14 @@ pub(crate) const FIGURES: [Figure; 21] = [
     },
     // 1,025 jobs do not pass question 8.
     Figure {
-        tasks: &[Task(Only(1), 1, 1), Task(Only(1024), 1, 1024)],
+        tasks: &[task!(Only(1), 1, 1), task!(Only(1024), 1, 1024)],
         step: 1,
         ceiling: MOST,
         asked: Asked::Plan,
         stored: b"refused,8,0\n",
     },
     Figure {
-        tasks: &[Task(Range(10, 12), 1, 12), Task(Range(7, 9), 1, 9)],
+        tasks: &[task!(Range(10, 12), 1, 12), task!(Range(7, 9), 1, 9)],
         step: 1,
         ceiling: MOST,
         asked: Asked::Table,
@@ -110,21 +132,21 @@ slice,2,1,2,1
     },
     // No number up to 23 serves both.
     Figure {
-        tasks: &[Task(Range(10, 12), 1, 12), Task(Range(7, 9), 1, 9)],
+        tasks: &[task!(Range(10, 12), 1, 12), task!(Range(7, 9), 1, 9)],
         step: 1,
         ceiling: 23,
         asked: Asked::Plan,
         stored: b"refused,7,0\n",
     },
     Figure {
-        tasks: &[Task(Range(10, 12), 1, 12), Task(Range(7, 9), 0, 0)],
+        tasks: &[task!(Range(10, 12), 1, 12), task!(Range(7, 9))],
         step: 1,
         ceiling: MOST,
         asked: Asked::Plan,
         stored: b"refused,6,1\n",
     },
     Figure {
-        tasks: &[Task(List(&[4, 8, 16]), 1, 16), Task(Range(10, 12), 1, 12)],
+        tasks: &[task!(List(&[4, 8, 16]), 1, 16), task!(Range(10, 12), 1, 12)],
         step: 1,
         ceiling: MOST,
         asked: Asked::Table,
@@ -139,7 +161,7 @@ slice,2,0,2,1
     },
     // No multiple of 5 lies in the range.
     Figure {
-        tasks: &[Task(Range(7, 9), 1, 9)],
+        tasks: &[task!(Range(7, 9), 1, 9)],
         step: 5,
         ceiling: MOST,
         asked: Asked::Plan,
@@ -147,9 +169,9 @@ slice,2,0,2,1
     },
     Figure {
         tasks: &[
-            Task(Range(4, 5), 1, 4),
-            Task(Range(11, 12), 3, 12),
-            Task(List(&[6, 9]), 2, 5),
+            task!(Range(4, 5), 1, 4),
+            task!(Range(11, 12), 3, 12),
+            task!(List(&[6, 9]), 2, 5),
         ],
         step: 1,
         ceiling: MOST,
@@ -157,7 +179,7 @@ slice,2,0,2,1
         stored: EXAMPLE,
     },
     Figure {
-        tasks: &[Task(Range(10, 12), 0, 0), Task(Range(7, 9), 0, 0)],
+        tasks: &[task!(Range(10, 12)), task!(Range(7, 9))],
         step: 1,
         ceiling: MOST,
         asked: Asked::Hyperperiod,
@@ -166,10 +188,10 @@ slice,2,0,2,1
     // This one and the three behind it are worked out by Brocal and others, 2013.
     Figure {
         tasks: &[
-            Task(Range(356, 372), 0, 0),
-            Task(Range(653, 681), 0, 0),
-            Task(Range(712, 742), 0, 0),
-            Task(Range(97_994, 102_006), 0, 0),
+            task!(Range(356, 372)),
+            task!(Range(653, 681)),
+            task!(Range(712, 742)),
+            task!(Range(97_994, 102_006)),
         ],
         step: 1,
         ceiling: MOST,
@@ -178,10 +200,10 @@ slice,2,0,2,1
     },
     Figure {
         tasks: &[
-            Task(Range(7, 9), 0, 0),
-            Task(Range(13, 14), 0, 0),
-            Task(Range(22, 24), 0, 0),
-            Task(Range(35, 47), 0, 0),
+            task!(Range(7, 9)),
+            task!(Range(13, 14)),
+            task!(Range(22, 24)),
+            task!(Range(35, 47)),
         ],
         step: 1,
         ceiling: MOST,
@@ -190,9 +212,9 @@ slice,2,0,2,1
     },
     Figure {
         tasks: &[
-            Task(Range(17, 21), 0, 0),
-            Task(Range(25, 30), 0, 0),
-            Task(Range(90, 95), 0, 0),
+            task!(Range(17, 21)),
+            task!(Range(25, 30)),
+            task!(Range(90, 95)),
         ],
         step: 1,
         ceiling: MOST,
@@ -201,10 +223,10 @@ slice,2,0,2,1
     },
     Figure {
         tasks: &[
-            Task(Range(357, 364), 0, 0),
-            Task(Range(654, 667), 0, 0),
-            Task(Range(713, 727), 0, 0),
-            Task(Range(97_995, 100_000), 0, 0),
+            task!(Range(357, 364)),
+            task!(Range(654, 667)),
+            task!(Range(713, 727)),
+            task!(Range(97_995, 100_000)),
         ],
         step: 1,
         ceiling: MOST,
@@ -214,10 +236,10 @@ slice,2,0,2,1
     // Worked out by Ripoll and Ballester, 2013.
     Figure {
         tasks: &[
-            Task(Range(339, 364), 0, 0),
-            Task(Range(621, 667), 0, 0),
-            Task(Range(677, 727), 0, 0),
-            Task(Range(93_000, 100_000), 0, 0),
+            task!(Range(339, 364)),
+            task!(Range(621, 667)),
+            task!(Range(677, 727)),
+            task!(Range(93_000, 100_000)),
         ],
         step: 1,
         ceiling: MOST,

@@ -1,10 +1,11 @@
 // Trying a figure.
 
-use crate::figure::{Asked, Figure, Task};
+use crate::figure::{Asked, Figure};
 use crate::found;
 use crate::shelf::Shelf;
 use books::{Grid, ListBook, RangeBook, SideBySide};
-use planning::{Figures, Plan, Workspace, make_plan, seek};
+use planning::seek;
+use programs::{PlanSpace, figures_of};
 use std::alloc::{AllocError, Global};
 use std::io;
 use std::io::Write;
@@ -12,15 +13,14 @@ use std::io::Write;
 // Lists, ranges and lists again, side by side on a grid.
 type FigureBook = Grid<SideBySide<ListBook, SideBySide<RangeBook, ListBook>>>;
 
-// Prints what the figure asks, what is found, and whether that is the stored answer.
+// Prints what the figure asks, what is found, and whether that is the stored answer; answers that too.
 pub(crate) fn try_figure(
     rt: &HostRuntime,
     figure: &Figure,
-    space: &mut Workspace,
-    plan: &mut Plan,
+    space: &mut PlanSpace,
 ) -> anyhow::Result<bool> {
     println!(rt; "asked: {figure}")?;
-    let found = answer(rt.alloc(), figure, space, plan)?;
+    let found = answer(rt.alloc(), figure, space)?;
     Ok(compare(rt, found.as_bytes(), figure.stored)?)
 }
 
@@ -37,12 +37,7 @@ pub(crate) fn compare(rt: &HostRuntime, found: &[u8], stored: &[u8]) -> io::Resu
     Ok(true)
 }
 
-fn answer(
-    heap: Global,
-    figure: &Figure,
-    space: &mut Workspace,
-    plan: &mut Plan,
-) -> Result<String, AllocError> {
+fn answer(heap: Global, figure: &Figure, space: &mut PlanSpace) -> Result<String, AllocError> {
     let book = book_of(figure);
     if let Asked::Hyperperiod = figure.asked {
         return match seek(&book, figure.ceiling) {
@@ -51,8 +46,8 @@ fn answer(
         };
     }
     let figures = figures_of(heap, figure.tasks)?;
-    match make_plan(&book, &figures, figure.ceiling, space, plan) {
-        Ok(()) => found::plan(heap, plan, figure.asked),
+    match space.plan(&book, &figures, figure.ceiling) {
+        Ok(plan) => found::plan(heap, plan, figure.asked),
         Err(refusal) => found::refused(heap, refusal),
     }
 }
@@ -61,7 +56,7 @@ fn answer(
 fn book_of(figure: &Figure) -> FigureBook {
     let mut shelf = Shelf::empty();
     for task in figure.tasks {
-        shelf.add(*task);
+        shelf.add(task.periods);
     }
     let Shelf {
         before,
@@ -72,12 +67,4 @@ fn book_of(figure: &Figure) -> FigureBook {
         SideBySide::new(before, SideBySide::new(ranges, behind)),
         figure.step,
     )
-}
-
-fn figures_of(heap: Global, tasks: &[Task]) -> Result<Vec<Option<Figures>>, AllocError> {
-    let mut figures = Vec::new(heap);
-    for task in tasks {
-        figures.push(task.figures())?;
-    }
-    Ok(figures)
 }

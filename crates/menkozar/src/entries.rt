@@ -1,85 +1,55 @@
 // Entering tasks into books and their figures beside them, with a line for each entry and for each
 // refusal.
 
-use books::{EntryFault, ListBook, RangeBook};
 use planning::Figures;
-use std::io;
+use programs::{Enter, List, Range};
+use std::{fmt, io};
 
-// A task by name, that may have every period from `low` to `high`.
+// A task by name, with what it may have and what it costs.
 #[derive(Clone, Copy)]
-pub struct RangeTask {
+pub struct Named<P> {
     pub name: &'static str,
-    pub low: u32,
-    pub high: u32,
+    pub periods: P,
     pub figures: Figures,
 }
 
-// A task by name, that may have the periods listed.
-#[derive(Clone, Copy)]
-pub struct ListTask {
-    pub name: &'static str,
-    pub figures: Figures,
-    pub periods: &'static [u32],
+// The line of a task that may have every period of a range.
+impl fmt::Display for Named<Range> {
+    fn fmt<W: fmt::Write>(&self, f: &mut fmt::Formatter<W>) -> fmt::Result {
+        let Range { low, high } = self.periods;
+        let Figures { cost, deadline } = self.figures;
+        write!(f, "range,{},{low},{high},{cost},{deadline}", self.name)
+    }
+}
+
+// The line of a task that may have the periods of a list.
+impl fmt::Display for Named<List> {
+    fn fmt<W: fmt::Write>(&self, f: &mut fmt::Formatter<W>) -> fmt::Result {
+        let Figures { cost, deadline } = self.figures;
+        write!(f, "list,{},{cost},{deadline}", self.name)?;
+        for period in self.periods.0 {
+            write!(f, ",{period}")?;
+        }
+        Ok(())
+    }
 }
 
 // A book of the tasks that are not refused, whose figures are added.
-pub(crate) fn ranges(
+pub(crate) fn entered<P: Enter>(
     rt: &HostRuntime,
-    tasks: &[RangeTask],
+    tasks: &[Named<P>],
     figures: &mut Vec<Figures>,
-) -> io::Result<RangeBook> {
-    let mut book = RangeBook::new();
+) -> io::Result<P::In>
+where
+    Named<P>: fmt::Display,
+{
+    let mut book = P::empty();
     for task in tasks {
-        range_line(rt, task)?;
-        match book.add(task.low, task.high) {
+        println!(rt; "{task}")?;
+        match task.periods.enter(&mut book) {
             Ok(()) => figures.push(task.figures)?,
-            Err(fault) => refused(rt, fault)?,
+            Err(fault) => println!(rt; "refused,{fault}")?,
         }
     }
     Ok(book)
-}
-
-// A book of the tasks that are not refused, whose figures are added.
-pub(crate) fn lists(
-    rt: &HostRuntime,
-    tasks: &[ListTask],
-    figures: &mut Vec<Figures>,
-) -> io::Result<ListBook> {
-    let mut book = ListBook::new();
-    for task in tasks {
-        list_line(rt, task)?;
-        match book.add(task.periods) {
-            Ok(()) => figures.push(task.figures)?,
-            Err(fault) => refused(rt, fault)?,
-        }
-    }
-    Ok(book)
-}
-
-// The refusal of an entry.
-pub(crate) fn refused(rt: &HostRuntime, fault: EntryFault) -> io::Result<()> {
-    let number = fault.number();
-    let line = fault.line();
-    let field = fault.field();
-    println!(rt; "refused,{number},{line},{field}")
-}
-
-fn range_line(rt: &HostRuntime, task: &RangeTask) -> io::Result<()> {
-    let name = task.name;
-    let low = task.low;
-    let high = task.high;
-    let cost = task.figures.cost;
-    let deadline = task.figures.deadline;
-    println!(rt; "range,{name},{low},{high},{cost},{deadline}")
-}
-
-fn list_line(rt: &HostRuntime, task: &ListTask) -> io::Result<()> {
-    let name = task.name;
-    let cost = task.figures.cost;
-    let deadline = task.figures.deadline;
-    print!(rt; "list,{name},{cost},{deadline}")?;
-    for period in task.periods {
-        print!(rt; ",{period}")?;
-    }
-    println!(rt; "")
 }

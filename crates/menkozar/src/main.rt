@@ -12,13 +12,7 @@ mod session;
 use std::process::ExitCode;
 
 fn main(rt: HostRuntime) -> ExitCode {
-    match run(&rt) {
-        Ok(()) => ExitCode::SUCCESS,
-        Err(error) => {
-            let _ = eprintln!(rt; "menkozar: {error}");
-            ExitCode::FAILURE
-        }
-    }
+    programs::exit_code(&rt, "menkozar", run(&rt))
 }
 
 fn run(rt: &HostRuntime) -> anyhow::Result<()> {

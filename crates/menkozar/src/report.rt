@@ -1,7 +1,7 @@
 // What is found for a book, in lines.
 
 use books::Book;
-use planning::{Refusal, chosen_period, seek};
+use planning::{chosen_period, seek};
 use std::io;
 
 // The least hyperperiod up to the ceiling and the chosen period of each task, or the refusal.
@@ -12,7 +12,7 @@ pub(crate) fn hyperperiod<B: Book>(rt: &HostRuntime, book: &B, ceiling: u32) -> 
             println!(rt; "hyperperiod,{number}")?;
             periods(rt, book, number)
         }
-        Err(refusal) => refused(rt, refusal),
+        Err(refusal) => println!(rt; "refused,{refusal}"),
     }
 }
 
@@ -23,10 +23,4 @@ fn periods<B: Book>(rt: &HostRuntime, book: &B, number: u32) -> io::Result<()> {
         }
     }
     Ok(())
-}
-
-fn refused(rt: &HostRuntime, refusal: Refusal) -> io::Result<()> {
-    let number = refusal.number();
-    let place = refusal.place();
-    println!(rt; "refused,{number},{place}")
 }

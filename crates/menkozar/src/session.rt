@@ -1,4 +1,5 @@
-// Calls on a planner, with a line for each event and for each refusal.
+// Calls on a planner, with a line for each event and for each refusal. The runtime goes beside the planner:
+// it is the program's, and only lent.
 
 use books::Book;
 use planning::Figures;
@@ -12,9 +13,15 @@ pub(crate) fn charge_all<B: Book>(
     figures: &[Figures],
 ) -> io::Result<()> {
     for (task, figures) in (0..16).zip(figures) {
-        if let Err(refusal) = planner.charge(task, figures.cost, figures.deadline) {
-            refused(rt, refusal)?;
-        }
+        tell(rt, planner.charge(task, figures.cost, figures.deadline))?;
+    }
+    Ok(())
+}
+
+// The line of a refusal, where the call got one.
+fn tell<T: Drop>(rt: &HostRuntime, outcome: Result<T, Refusal>) -> io::Result<()> {
+    if let Err(refusal) = outcome {
+        println!(rt; "refused,{refusal}")?;
     }
     Ok(())
 }
@@ -27,12 +34,12 @@ pub(crate) fn plan_and_run<B: Book>(
 ) -> io::Result<()> {
     match planner.plan(ceiling) {
         Ok(granted) => {
-            summary(rt, granted)?;
+            println!(rt; "plan,{granted}")?;
             periods(rt, planner)?;
             repetition(rt, planner, granted)?;
             one_more(rt, planner)
         }
-        Err(refusal) => refused(rt, refusal),
+        Err(refusal) => println!(rt; "refused,{refusal}"),
     }
 }
 
@@ -40,36 +47,22 @@ pub(crate) fn plan_and_run<B: Book>(
 // plan under no ceiling.
 pub(crate) fn refusals<B: Book>(rt: &HostRuntime, planner: &mut Planner<B>) -> io::Result<()> {
     println!(rt; "charge task 1 with a cost of 0")?;
-    if let Err(refusal) = planner.charge(1, 0, 8) {
-        refused(rt, refusal)?;
-    }
+    tell(rt, planner.charge(1, 0, 8))?;
     println!(rt; "charge task 1 with a cost of 1, and ask for an event")?;
-    if let Err(refusal) = planner.charge(1, 1, 8) {
-        refused(rt, refusal)?;
-    }
-    if let Err(refusal) = planner.next() {
-        refused(rt, refusal)?;
-    }
+    tell(rt, planner.charge(1, 1, 8))?;
+    tell(rt, planner.next())?;
     println!(rt; "plan up to 0")?;
-    if let Err(refusal) = planner.plan(0) {
-        refused(rt, refusal)?;
-    }
+    tell(rt, planner.plan(0))?;
     Ok(())
 }
 
-fn summary(rt: &HostRuntime, granted: Granted) -> io::Result<()> {
-    let hyperperiod = granted.hyperperiod;
-    let size = granted.frame_size;
-    let jobs = granted.jobs;
-    let rows = granted.rows;
-    println!(rt; "plan,{hyperperiod},{size},{jobs},{rows}")
-}
-
+// The chosen period of each task.
 fn periods<B: Book>(rt: &HostRuntime, planner: &Planner<B>) -> io::Result<()> {
-    for task in 0..16 {
-        if let Some(period) = planner.period(task) {
-            println!(rt; "period,{task},{period}")?;
-        }
+    let Some(plan) = planner.standing() else {
+        return Ok(());
+    };
+    for (task, period) in plan.periods().iter().enumerate() {
+        println!(rt; "period,{task},{period}")?;
     }
     Ok(())
 }
@@ -97,7 +90,7 @@ fn frame<B: Book>(rt: &HostRuntime, planner: &mut Planner<B>, rows: u32) -> io::
                     return Ok(());
                 }
             }
-            Err(refusal) => return refused(rt, refusal),
+            Err(refusal) => return println!(rt; "refused,{refusal}"),
         }
     }
     Ok(())
@@ -107,14 +100,10 @@ fn frame<B: Book>(rt: &HostRuntime, planner: &mut Planner<B>, rows: u32) -> io::
 fn one_more<B: Book>(rt: &HostRuntime, planner: &mut Planner<B>) -> io::Result<()> {
     match planner.next() {
         Ok(event) => {
-            let repetition = match event {
-                Event::Slice { repetition, .. } => repetition,
-                Event::FrameEnd { repetition, .. } => repetition,
-            };
-            println!(rt; "repetition,{repetition}")?;
+            println!(rt; "repetition,{}", event.repetition())?;
             line(rt, event)
         }
-        Err(refusal) => refused(rt, refusal),
+        Err(refusal) => println!(rt; "refused,{refusal}"),
     }
 }
 
@@ -129,10 +118,4 @@ fn line(rt: &HostRuntime, event: Event) -> io::Result<()> {
         } => println!(rt; "slice,{frame},{task},{job},{length}"),
         Event::FrameEnd { frame, .. } => println!(rt; "end,{frame}"),
     }
-}
-
-fn refused(rt: &HostRuntime, refusal: Refusal) -> io::Result<()> {
-    let number = refusal.number();
-    let place = refusal.place();
-    println!(rt; "refused,{number},{place}")
 }

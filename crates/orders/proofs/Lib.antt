@@ -4,8 +4,3 @@ pub mod Parents
 pub mod Rising
 pub mod Sinking
 pub mod Root
-pub mod Fronts
-pub mod Retired
-pub mod Adopted
-pub mod Pushed
-pub mod Taken

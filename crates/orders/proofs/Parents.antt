@@ -1,5 +1,5 @@
 -- The two ways to say that a list is arranged as a heap agree.
-use Rattle.std.proofs.Common.{◌≡◌, ℕ, ◌+◌, ◌-◌, ◌/◌, ◌<◌, ◌≤◌, Bool, List, length, get_or, ap, arith}
+use Rattle.std.proofs.Common.{◌≡◌, ℕ, ◌+◌, ◌-◌, ◌/◌, Bool, List, length, get_or, ap, arith}
 use Rattle.orders.specs.Order.{Sound}
 use Rattle.orders.specs.Sifting.{Heaped}
 use Rattle.orders.proofs.Orders.{by}
@@ -13,8 +13,3 @@ module _ {X : Type 0} (le : X → X → Bool) where
       let parent : p ≡ (k - 1) / 2 = omega arith in
       let child : k ≡ k - 1 + 1 = omega arith in
       by le _ _ _ _ (ap (λ m. get_or xs m d) parent) (ap (λ m. get_or xs m d) child) (h (k - 1) d (omega arith))
-
-  -- only the places that are spoken of matter
-  pub heaped_same : (xs ys : List X) (low n : ℕ) → ((i : ℕ) (d : X) → low ≤ i → i < n → get_or ys i d ≡ get_or xs i d) → Heaped le xs low n → Heaped le ys low n
-  heaped_same xs ys low n same h p k d l from to f =
-      by le _ _ _ _ (same p d l (omega arith)) (same k d (omega arith) f) (h p k d l from to f)

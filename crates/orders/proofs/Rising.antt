@@ -4,7 +4,7 @@ use Rattle.std.proofs.lemmas.List.{get_or-take, length-take}
 use Rattle.std.proofs.lemmas.Bool.{cases_eq}
 use Rattle.orders.specs.Order.{TotalOrder, Sound}
 use Rattle.orders.proofs.Orders.{by}
-use Rattle.orders.proofs.Parents.{heaped_from_sound, sound_from_heaped}
+use Rattle.orders.proofs.Parents.{heaped_from_sound}
 
 -- Every child but the one at j is right with its parent, and j's parent is right with j's children.
 pub record Rising {X : Type 0} (le : X → X → Bool) (xs : List X) (j n : ℕ) : Type 0 where
@@ -21,18 +21,6 @@ module _ {X : Type 0} (le : X → X → Bool) where
         (heaped_from_sound le (take j xs) j front h p k d (omega arith) from to (omega arith));
     over = λ p k d from to from' to' f. absurd (omega arith);
   }
-
-  -- it rests where its parent is at most it
-  pub rise_rests : (xs : List X) (p j n : ℕ) → length xs ≡ n → p * 2 + 1 ≤ j → j ≤ p * 2 + 2 → ((d : X) → le (get_or xs p d) (get_or xs j d) ≡ true) → Rising le xs j n → Sound le xs
-  rise_rests xs p j n long from to right h =
-      sound_from_heaped le xs n long (λ q k d low a b f. ⊎_elim
-      (λ e. let same : q ≡ p = omega arith in by le _ _ _ _ (ap (λ m. get_or xs m d) same) (ap (λ m. get_or xs m d) e) (right d))
-      (h.edges q k d a b f)
-      (cases_eq k j))
-
-  -- or at the first place, which has no parent
-  pub rise_tops : (xs : List X) (j n : ℕ) → length xs ≡ n → j ≡ 0 → Rising le xs j n → Sound le xs
-  rise_tops xs j n long top h = sound_from_heaped le xs n long (λ q k d low a b f. h.edges q k d a b f (omega arith))
 
   module _ (o : TotalOrder le) (xs ys : List X) (p j n : ℕ) (from : p * 2 + 1 ≤ j) (to : j ≤ p * 2 + 2) (inside : j < n) (at_p : (d : X) → get_or ys p d ≡ get_or xs j d) (at_j : (d : X) → get_or ys j d ≡ get_or xs p d) (other : (k : ℕ) (d : X) → (k ≡ p → ⊥) → (k ≡ j → ⊥) → get_or ys k d ≡ get_or xs k d) where
     -- a swap with its parent takes it one level up

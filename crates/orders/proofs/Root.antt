@@ -1,6 +1,5 @@
 -- The first element of a list that is arranged as a heap is least.
 use Rattle.std.proofs.Common.{◌≡◌, ℕ, zero, suc, ◌-◌, ◌/◌, ◌<◌, ◌≤◌, Bool, true, List, length, get_or, refl, ap, ⊎_elim, arith}
-use Rattle.std.proofs.ByRecursion.{All-from_get_or}
 use Rattle.std.proofs.lemmas.Bool.{cases_eq}
 use Rattle.orders.specs.Order.{TotalOrder, Sound, Least}
 use Rattle.orders.proofs.Orders.{by, itself}
@@ -23,4 +22,4 @@ module _ {X : Type 0} (le : X → X → Bool) (o : TotalOrder le) where
 
   pub root_least : (xs : List X) (x : X) → ((d : X) → x ≡ get_or xs 0 d) → Sound le xs → Least le x xs
   root_least xs x first h =
-      All-from_get_or _ xs x (λ k f. by le _ _ _ _ (first x) refl (root xs x h k k (omega arith) f))
+      λ k d f. by le _ _ _ _ (first d) refl (root xs d h k k (omega arith) f)

@@ -1,9 +1,9 @@
 -- One element may stand behind a child of its own, and sinks until it does not.
-use Rattle.std.proofs.Common.{◌≡◌, ℕ, ◌+◌, ◌*◌, ◌<◌, ◌≤◌, Bool, true, false, List, length, get_or, refl, ap, ◌∙◌, ⊎_elim, arith}
+use Rattle.std.proofs.Common.{◌≡◌, ℕ, ◌+◌, ◌*◌, ◌<◌, ◌≤◌, Bool, true, false, List, length, get_or, ap, ◌∙◌, ⊎_elim, arith}
 use Rattle.std.proofs.lemmas.Bool.{cases_eq}
 use Rattle.orders.specs.Order.{TotalOrder}
-use Rattle.orders.specs.Sifting.{Heaped, FirstChild}
-use Rattle.orders.proofs.Orders.{by, itself}
+use Rattle.orders.specs.Sifting.{FirstChild}
+use Rattle.orders.proofs.Orders.{by}
 
 -- Every parent from `low` on but the one at j is right with its children, and j's parent is right
 -- with j's children.
@@ -12,27 +12,7 @@ pub record Sinking {X : Type 0} (le : X → X → Bool) (xs : List X) (low j n :
   pub over : (p k : ℕ) (d : X) → low ≤ p → p * 2 + 1 ≤ j → j ≤ p * 2 + 2 → j * 2 + 1 ≤ k → k ≤ j * 2 + 2 → k < n → le (get_or xs p d) (get_or xs k d) ≡ true
 
 module _ {X : Type 0} (le : X → X → Bool) where
-  -- to be first, a child has only to be at most the other one
-  pub child_first : TotalOrder le → (xs : List X) (j c : ℕ) → j * 2 + 1 ≤ c → c ≤ j * 2 + 2 → c < length xs → ((k : ℕ) (d : X) → j * 2 + 1 ≤ k → k ≤ j * 2 + 2 → k < length xs → (k ≡ c → ⊥) → le (get_or xs c d) (get_or xs k d) ≡ true) → FirstChild le xs j c
-  child_first o xs j c from to inside right = record {
-    from = from;
-    to = to;
-    inside = inside;
-    first = λ k d a b f. ⊎_elim
-        (λ e. by le _ _ _ _ refl (ap (λ m. get_or xs m d) e) (itself le o (get_or xs c d)))
-        (right k d a b f)
-        (cases_eq k c);
-  }
-
   module _ (o : TotalOrder le) (xs : List X) (low j c n : ℕ) (long : length xs ≡ n) (child : FirstChild le xs j c) where
-    -- the element rests where it is at most its first child
-    pub sink_rests : ((d : X) → le (get_or xs j d) (get_or xs c d) ≡ true) → Sinking le xs low j n → Heaped le xs low n
-    sink_rests right h p k d l from to f =
-        ⊎_elim
-        (λ e. by le _ _ _ _ (ap (λ m. get_or xs m d) e) refl (o.trans _ _ _ (right d) (child.first k d (omega arith) (omega arith) (omega arith))))
-        (h.edges p k d l from to f)
-        (cases_eq p j)
-
     module _ (ys : List X) (reached : low ≤ j) (at_j : (d : X) → get_or ys j d ≡ get_or xs c d) (at_c : (d : X) → get_or ys c d ≡ get_or xs j d) (other : (k : ℕ) (d : X) → (k ≡ j → ⊥) → (k ≡ c → ⊥) → get_or ys k d ≡ get_or xs k d) where
       -- a swap with its first child takes it one level down
       pub sink_steps : ((d : X) → le (get_or xs j d) (get_or xs c d) ≡ false) → Sinking le xs low j n → Sinking le ys low c n

@@ -1,5 +1,4 @@
-use Rattle.std.specs.Prelude.{◌≡◌, ℕ, ◌+◌, ◌/◌, ◌<◌, Bool, true, false, List, length, slice_index_or}
-use Rattle.std.specs.List.{AllByRecursion}
+use Rattle.std.specs.Prelude.{◌≡◌, ℕ, ◌+◌, ◌/◌, ◌<◌, Bool, true, false, All, List, length, slice_index_or}
 
 -- A total order: of two elements one is at most the other, the order passes on from element to
 -- element, and two elements that are each at most the other are the same.
@@ -10,7 +9,7 @@ pub record TotalOrder {X : Type 0} (le : X → X → Bool) : Type 0 where
 
 -- An element is least if it is at most each element of the list.
 abbrev pub Least : {X : Type 0} → (X → X → Bool) → X → List X → Type 0
-Least le x xs = AllByRecursion (λ y. le x y ≡ true) xs
+Least le x xs = All (λ y. le x y ≡ true) xs
 
 -- A list is arranged as a heap if no element stands before its parent in the order. The parent of
 -- the element at place i + 1 is the one at place i / 2.

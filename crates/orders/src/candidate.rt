@@ -3,8 +3,8 @@ ghost use Rattle.std.proofs.Common.{rules};
 
 use crate::ranked::Ranked;
 
-// A number that one task proposes.
-#[derive(Clone, Copy)]
+// A number that one task proposes. Candidates go by number and then task, in the order of the fields.
+#[derive(Clone, Copy, Debug, PartialEq, Eq, PartialOrd, Ord)]
 pub struct Candidate {
     pub number: u32,
     pub task: u32,
@@ -16,9 +16,6 @@ impl Ranked for Candidate {
     ghost total = { Prim.search rules };
 
     fn at_most(&self, other: &Candidate) -> bool {
-        if self.number != other.number {
-            return self.number < other.number;
-        }
-        self.task <= other.task
+        self <= other
     }
 }

@@ -5,7 +5,8 @@ ghost use Rattle.orders.specs.Order.{TotalOrder};
 pub trait Ranked {
     ghost le: { Self → Self → Bool };
 
-    // Whether this element is the other one or stands before it.
+    // Whether this element is the other one or stands before it. Each kind answers by itself, since only
+    // there is it known that its derived order is the one stated.
     fn at_most(&self, other: &Self) -> bool
         ensures { result ≡ le self.now other.now };
 

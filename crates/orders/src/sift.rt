@@ -27,13 +27,15 @@ fn first_child<T: Ranked + Copy>(s: &[T], at: usize) -> Option<usize>
     Some(left + 1)
 }
 
-// Lets the last element rise to where its parent is at most it.
+// Lets the last element rise to where its parent is at most it. It keeps the elements, and says so, as the
+// other two do: the slice is lent, and only the heap above is a type.
 pub(crate) fn sift_up<T: Ranked + Copy>(s: &mut [T])
     requires { 0 < length s.old }
     ensures shuffled { IsPermutation s.old s.new }
     ensures sound { Sound T.Ranked.le (take (length s.old - 1) s.old) → Sound T.Ranked.le s.new }
 {
     let mut at = s.len() - 1;
+    // A `while`, since the places do not go up or down by one: each is the parent of the one before.
     while at > 0 {
         let parent = (at - 1) / 2;
         if at_most_at(s, parent, at) {
@@ -50,6 +52,7 @@ pub(crate) fn sift_down<T: Ranked + Copy>(s: &mut [T], root: usize)
     ensures heaped { Heaped T.Ranked.le s.old (root + 1) (length s.old) → Heaped T.Ranked.le s.new root (length s.old) }
 {
     let mut at = root;
+    // So too here: each place is a child of the one before.
     while let Some(child) = first_child(s, at) {
         if at_most_at(s, at, child) {
             return;
@@ -65,9 +68,7 @@ pub(crate) fn heapify<T: Ranked + Copy>(s: &mut [T])
     ensures shuffled { IsPermutation s.old s.new }
     ensures sound { Sound T.Ranked.le s.new }
 {
-    let mut root = s.len() / 2;
-    while root > 0 {
-        root -= 1;
+    for root in (0..s.len() / 2).rev() {
         sift_down(s, root);
     }
 }
@@ -82,6 +83,6 @@ pub(crate) fn retire_first<T: Ranked + Copy>(s: &mut [T]) -> T
 {
     let last = s.len() - 1;
     s.swap(0, last);
-    sift_down(&mut s[0..last], 0);
+    sift_down(&mut s[..last], 0);
     s[last]
 }

@@ -3,8 +3,9 @@ ghost use Rattle.std.proofs.Common.{rules};
 
 use crate::ranked::Ranked;
 
-// A job that waits to be served, with the end of its window.
-#[derive(Clone, Copy)]
+// A job that waits to be served, with the end of its window. Jobs go by end, then task, then job, in
+// the order of the fields.
+#[derive(Clone, Copy, Debug, Default, PartialEq, Eq, PartialOrd, Ord)]
 pub struct Waiting {
     pub end: u32,
     pub task: u32,
@@ -17,12 +18,6 @@ impl Ranked for Waiting {
     ghost total = { Prim.search rules };
 
     fn at_most(&self, other: &Waiting) -> bool {
-        if self.end != other.end {
-            return self.end < other.end;
-        }
-        if self.task != other.task {
-            return self.task < other.task;
-        }
-        self.job <= other.job
+        self <= other
     }
 }

@@ -2,7 +2,7 @@
 // and prints the plan or the refusal. A missing sheet is an empty one.
 #![tactic(auto)]
 
-use console::answer;
+use console::{AnswerError, answer};
 use std::fs::File;
 use std::io;
 use std::io::{ErrorKind, Read, Write};
@@ -15,25 +15,18 @@ const MOST: u64 = 4_097;
 const ROOM: usize = 65_536;
 
 fn main(rt: HostRuntime) -> ExitCode {
-    match run(&rt) {
-        Ok(()) => ExitCode::SUCCESS,
-        Err(error) => {
-            let _ = eprintln!(rt; "plan_sheets: {error}");
-            ExitCode::FAILURE
-        }
-    }
+    programs::exit_code(&rt, "plan_sheets", run(&rt))
 }
 
 fn run(rt: &HostRuntime) -> anyhow::Result<()> {
     let ranges = sheet(rt, "ranges.txt")?;
     let lists = sheet(rt, "lists.txt")?;
     let mut text = vec![in rt.alloc(); 0; ROOM]?;
-    match answer(rt.alloc(), &ranges, &lists, 1, 1_000_000, &mut text)? {
+    match answer(rt.alloc(), &ranges, &lists, 1, 1_000_000, &mut text) {
         Ok(len) => rt.stdout().write_all(&text[..len])?,
-        Err(refusal) => {
-            let number = refusal.number();
-            println!(rt; "refused,{number},0,0,0")?;
-        }
+        Err(AnswerError::Printing(refusal)) => println!(rt; "refused,{}", refusal.notice())?,
+        // By hand, since the other case of the error is answered here.
+        Err(AnswerError::Memory(wanting)) => return Err(wanting.into()),
     }
     Ok(())
 }
@@ -45,11 +38,8 @@ fn sheet(rt: &HostRuntime, path: &str) -> io::Result<Vec<u8>> {
         Ok(file) => {
             file.take(MOST).read_to_end(&mut bytes)?;
         }
-        Err(error) => {
-            if error.kind() != ErrorKind::NotFound {
-                return Err(error);
-            }
-        }
+        Err(error) if error.kind() == ErrorKind::NotFound => {}
+        Err(error) => return Err(error),
     }
     Ok(bytes)
 }

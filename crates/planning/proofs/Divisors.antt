@@ -1,18 +1,9 @@
-use Rattle.std.proofs.Common.{◌≡◌, ℕ, ◌+◌, ◌*◌, ◌/◌, ◌%◌, ◌<◌, ◌≤◌, Bool, true, false, sym, ap, ◌∙◌, subst, ⊎_elim, mul-le-mul_right, mul_comm, add-mul, lt_of_mul-lt-mul_right, mul-le-mul_left, one-mul, zero-mul, arith}
+use Rattle.std.proofs.Common.{◌≡◌, ℕ, ◌+◌, ◌*◌, ◌/◌, ◌%◌, ◌<◌, ◌≤◌, sym, subst, ⊎_elim, mul-le-mul_right, mul_comm, add-mul, lt_of_mul-lt-mul_right, mul-le-mul_left, one-mul, arith}
 use native.Mathlib.Nat.{mul-mod_right, le_of_mul-le-mul_left, div-eq_of_eq-mul_right, lt-div-mul-add}
 use Rattle.std.proofs.lemmas.Bool.{cases_lt}
 use Rattle.planning.proofs.Steps.{whole_quotient}
 
 module _ (n q : ℕ) (divides : n % q ≡ 0) where
-  -- a quotient is at least 1
-  pub quotient_from_one : 1 ≤ n → 1 * q ≤ n
-  quotient_from_one one =
-      let whole : n / q * q ≡ n = whole_quotient n q divides in
-      ⊎_elim {C = 1 * q ≤ n}
-      (λ none. let zero : n / q * q ≡ 0 = ap (λ k. k * q) (let z : n / q ≡ 0 = omega arith in z) ∙ zero-mul q in absurd (omega arith))
-      (λ some. omega (arith, mul-le-mul_right q some))
-      (cases_lt (n / q) 1)
-
   -- a quotient that is not `times` is at least one more
   pub quotient_more : (times : ℕ) → times * q ≤ n → (times * q ≡ n → ⊥) → (times + 1) * q ≤ n
   quotient_more times at_most other =
@@ -38,7 +29,3 @@ pub no_quotient_left : (n least times q : ℕ) → 1 ≤ least → least ≤ q �
 no_quotient_left n least times q one low past h =
     let reach : (n / least + 1) * least ≤ times * least = mul-le-mul_right least (let z : n / least + 1 ≤ times = omega arith in z) in
     omega (arith, lt-div-mul-add {a = n} {b = least} one, add-mul (n / least) 1 least, one-mul least, mul-le-mul_left times low)
-
--- an answer is not both yes and no
-pub yes_and_no : (answer meaning : Bool) → answer ≡ meaning → answer ≡ false → meaning ≡ true → ⊥
-yes_and_no answer meaning same left taken = let z : ◌≡◌ {A = ℕ} 0 1 = cc in omega arith

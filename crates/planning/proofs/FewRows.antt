@@ -1,9 +1,8 @@
-use Rattle.std.proofs.Common.{◌≡◌, ℕ, ◌+◌, ◌-◌, ◌≤◌, true, cond, ◌&&◌, eqb, ltb, List, [], ◌∷◌, length, ap, ⊎_elim, arith}
-use Rattle.std.proofs.ByRecursion.{all-has, all_has_itself, All-weaker}
+use Rattle.std.proofs.Common.{◌≡◌, ℕ, ◌+◌, ◌-◌, ◌≤◌, true, cond, ◌&&◌, eqb, ltb, All, Contains, List, [], ◌∷◌, length, ap, ⊎_elim, arith}
+use Rattle.std.proofs.lemmas.List.Elements.{All-contains, All-contains_itself, All-head, All-tail, All-weaker}
 use Rattle.std.proofs.lemmas.List.{length-map}
 use Rattle.std.proofs.lemmas.Bool.{cases_eq}
 use Rattle.std.proofs.lemmas.Bool.Decides.{nat_tests}
-use Rattle.std.specs.List.{ContainsAt as Has, AllByRecursion}
 use Rattle.planning.specs.declared.job.Job.{Job}
 use Rattle.planning.specs.declared.job.Row.{Row}
 use Rattle.planning.specs.Placing.{Sum, Jobs, Frames}
@@ -40,18 +39,19 @@ module _ (js : Jobs) (fr : Frames) where
       (cases_eq g p.frame)
 
   -- places that rise are no more than what a table has in all, where it has something at each
-  pub places_at_most : (places : List Place) (w : ℕ → ℕ → ℕ) → Rising js places → AllByRecursion (IsGift js fr w) places → length places ≤ Sum fr.count (λ g. Sum js.count (w g))
+  pub places_at_most : (places : List Place) (w : ℕ → ℕ → ℕ) → Rising js places → All (IsGift js fr w) places → length places ≤ Sum fr.count (λ g. Sum js.count (w g))
   places_at_most [] w rising gifts = omega arith
   places_at_most (p ∷ ps) w rising gifts =
-      let rest : AllByRecursion (IsGift js fr (lowered p w)) ps =
-      All-weaker (Has ps) (IsGift js fr (lowered p w)) (λ q has.
-      let gift = all-has (IsGift js fr w) ps q gifts.1 has in
-      (gift.0, gift.1, omega (arith, gift.2, lowered_elsewhere w p q (rising_head js p ps q rising has)))) ps (all_has_itself ps)
+      let first = All-head (IsGift js fr w) p ps gifts in
+      let rest : All (IsGift js fr (lowered p w)) ps =
+      All-weaker (Contains ps) (IsGift js fr (lowered p w)) (λ q has.
+      let gift = All-contains (IsGift js fr w) ps q (All-tail (IsGift js fr w) p ps gifts) has in
+      (gift.0, gift.1, omega (arith, gift.2, lowered_elsewhere w p q (rising_head js p ps q rising has)))) ps (All-contains_itself ps)
       in
       omega (
         arith,
         places_at_most ps (lowered p w) (rising_tail js p ps rising) rest,
-        sum_with_more fr.count p.frame 1 (λ g. Sum js.count (lowered p w g)) (λ g. Sum js.count (w g)) gifts.0.0 (λ g _. lowered_frame w p gifts.0 g),
+        sum_with_more fr.count p.frame 1 (λ g. Sum js.count (lowered p w g)) (λ g. Sum js.count (w g)) first.0 (λ g _. lowered_frame w p first g),
       )
 
 -- the rows are no more than the jobs and the frames
@@ -62,7 +62,7 @@ rows_are_few jobs fr rows greedy =
     let G = table.0 in
     let r = greedy G table.1 in
     let one : ℕ → ℕ → ℕ = λ g i. cond (ltb 0 (G g i)) 1 0 in
-    let marked : AllByRecursion (IsGift js fr one) r.places = All-weaker (IsGift js fr G) (IsGift js fr one) (λ p gift. (gift.0, gift.1, grind (arith, nat_tests))) r.places r.gifts in
+    let marked : All (IsGift js fr one) r.places = All-weaker (IsGift js fr G) (IsGift js fr one) (λ p gift. (gift.0, gift.1, grind (arith, nat_tests))) r.places r.gifts in
     omega (
       arith,
       ap (length {A = Row}) r.written,

@@ -28,3 +28,4 @@ mod LeastWork
 pub mod Membership
 pub mod OneTable
 mod FewRows
+mod FoundIsSought

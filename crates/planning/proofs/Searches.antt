@@ -1,9 +1,8 @@
-use Rattle.std.proofs.Common.{◌≡◌, ℕ, ◌-◌, ◌<◌, ◌≤◌, Bool, true, false, eqb, ltb, leb, List, [], ◌∷◌, length, get_or, take, Some, None, MatchBool, sum_by, sym, ap, ◌∙◌, subst, ⊎_elim, arith, length-take, get_or-take}
-use Rattle.std.proofs.ByRecursion.{All-from_get_or, all-has, All-weaker, has_get_or, all_shuffled, has_shuffled}
-use Rattle.std.proofs.lemmas.List.Sorted.{sum_by-IsPermutation}
+use Rattle.std.proofs.Common.{◌≡◌, ℕ, ◌-◌, ◌<◌, ◌≤◌, true, eqb, ltb, leb, All, Contains, List, [], ◌∷◌, length, get_or, take, Some, None, sum_by, sym, ap, ◌∙◌, subst, ⊎_elim, arith, length-take, get_or-take}
+use Rattle.std.proofs.lemmas.List.Elements.{All-cons, All-contains, All-head, All-tail, All-weaker, Contains-append_right, Contains-get_or}
+use Rattle.std.proofs.lemmas.List.Sorted.{All-permutation, Contains-permutation, sum_by-IsPermutation}
 use Rattle.std.proofs.lemmas.List.Sums.{sum_by-cons}
 use Rattle.std.proofs.lemmas.Bool.{cases_lt, cases_Bool, ltb-true, eqb-true, cond-false}
-use Rattle.std.specs.List.{ContainsAt as Has, AllByRecursion}
 use Rattle.std.specs.List.Sorted.{IsPermutation}
 use Rattle.books.specs.Meaning.{Meaning}
 use Rattle.orders.specs.Models.{candidate_le}
@@ -11,32 +10,26 @@ use Rattle.orders.specs.Order.{Least}
 use Rattle.orders.specs.declared.candidate.Candidate.{Candidate}
 use Rattle.planning.specs.Candidates.{Searched, Stands}
 use Rattle.planning.specs.Hyperperiod.{LeastHyperperiod, NextServing, NoneServes, ServesTask}
-use Rattle.planning.proofs.Membership.{has_cons_cases, has_head, has_tail}
-
--- at a yes, what is promised of a yes
-pub when_yes : (answer : Bool) (P Q : Type 0) → answer ≡ true → MatchBool answer P Q → P
-when_yes true P Q same w = w
-when_yes false P Q same w = let z : ◌≡◌ {A = ℕ} 0 1 = cc in absurd (omega arith)
+use Rattle.planning.proofs.Membership.{has_cons_cases, has_head}
 
 -- candidates that have not moved, one for each task
 pub unmoved_start : (m : Meaning) (slots cs : List Candidate) → m.count ≤ 16 → length slots ≡ 16 → ((k : ℕ) (d : Candidate) → k < 16 → get_or slots k d ≡ record { number = 0; task = k }) → IsPermutation (take m.count slots) cs → Searched m 1 cs
 unmoved_start m slots cs few long places arranged =
     let n = m.count in
     let front = take n slots in
-    let d : Candidate = record { number = 0; task = 0 } in
-    let at_k : (k : ℕ) → k < length front → get_or front k d ≡ record { number = 0; task = k } = λ k h.
+    let at_k : (k : ℕ) (d : Candidate) → k < length front → get_or front k d ≡ record { number = 0; task = k } = λ k d h.
     let below : k < n = omega (arith, length-take n slots) in
     get_or-take n slots k d below ∙ places k d (omega arith)
     in
     record {
       tasks = λ t below.
           let inside : t < length front = omega (arith, length-take n slots) in
-          (0, has_shuffled front cs (record { number = 0; task = t }) arranged (subst (Has front) (at_k t inside) (has_get_or front t d inside)));
+          (0, Contains-permutation front cs (record { number = 0; task = t }) arranged (let d : Candidate = record { number = 0; task = t } in subst (Contains front) (at_k t d inside) (Contains-get_or front t d inside)));
       stand =
-          all_shuffled (Stands m 1) front cs arranged
-          (All-from_get_or (Stands m 1) front d (λ k h.
+          All-permutation (Stands m 1) front cs arranged
+          (λ k d h.
           let below : k < n = omega (arith, length-take n slots) in
-          subst (Stands m 1) (sym (at_k k h)) (below, omega arith, λ low. absurd (omega arith))));
+          subst (Stands m 1) (sym (at_k k d h)) (below, omega arith, λ low. absurd (omega arith)));
       below = λ k low under. absurd (omega arith);
     }
 
@@ -65,18 +58,18 @@ module _ (m : Meaning) (highest : ℕ) (cs : List Candidate) (s : Searched m hig
         serves = λ t below.
             let has = s.tasks t below in
             let y : Candidate = record { number = has.0; task = t } in
-            let stands = all-has (Stands m highest) cs y s.stand has.1 in
-            let same : has.0 ≡ highest = omega (arith, stands.1, le_number x y (all-has (λ c. candidate_le x c ≡ true) cs y least has.1)) in
+            let stands = All-contains (Stands m highest) cs y s.stand has.1 in
+            let same : has.0 ≡ highest = omega (arith, stands.1, le_number x y (All-contains (λ c. candidate_le x c ≡ true) cs y least has.1)) in
             subst (λ n. ServesTask m n t) same (stands.2 (omega arith));
         least = s.below;
       }
 
   module _ (x : Candidate) (ds : List Candidate) (taken : IsPermutation cs (x ∷ ds)) where
-    stands_all : AllByRecursion (Stands m highest) (x ∷ ds)
-    stands_all = all_shuffled (Stands m highest) cs (x ∷ ds) taken s.stand
+    stands_all : All (Stands m highest) (x ∷ ds)
+    stands_all = All-permutation (Stands m highest) cs (x ∷ ds) taken s.stand
 
     pub taken_stands : Stands m highest x
-    taken_stands = stands_all.0
+    taken_stands = All-head (Stands m highest) x ds stands_all
 
     -- a task that no number from the highest on serves leaves none that serves the book
     pub none_left : (ceiling : ℕ) → NextServing m x.task highest ceiling None → NoneServes m ceiling
@@ -94,15 +87,15 @@ module _ (m : Meaning) (highest : ℕ) (cs : List Candidate) (s : Searched m hig
           tasks = λ t below.
               let has = s.tasks t below in
               let z : Candidate = record { number = has.0; task = t } in
-              ⊎_elim {C = (k : ℕ) × Has es (record { number = k; task = t })}
-              (λ is. (n, subst (λ u. Has es (record { number = n; task = u })) (ap (λ c. c.task) is) (has_shuffled (y ∷ ds) es y pushed (has_head y ds))))
-              (λ rest. (has.0, has_shuffled (y ∷ ds) es z pushed (has_tail y ds z rest)))
-              (has_cons_cases x ds z (has_shuffled cs (x ∷ ds) z taken has.1));
+              ⊎_elim {C = (k : ℕ) × Contains es (record { number = k; task = t })}
+              (λ is. (n, subst (λ u. Contains es (record { number = n; task = u })) (ap (λ c. c.task) is) (Contains-permutation (y ∷ ds) es y pushed (has_head y ds))))
+              (λ rest. (has.0, Contains-permutation (y ∷ ds) es z pushed (Contains-append_right (y ∷ []) ds z rest)))
+              (has_cons_cases x ds z (Contains-permutation cs (x ∷ ds) z taken has.1));
           stand =
-              all_shuffled (Stands m n) (y ∷ ds) es pushed (
-                (taken_stands.0, omega arith, λ _. next.2),
-                All-weaker (Stands m highest) (Stands m n) (λ c st. (st.0, omega (arith, st.1, next.0), st.2)) ds stands_all.1,
-              );
+              All-permutation (Stands m n) (y ∷ ds) es pushed
+              (All-cons (Stands m n) y ds (taken_stands.0, omega arith, λ _. next.2)
+              (All-weaker (Stands m highest) (Stands m n) (λ c st. (st.0, omega (arith, st.1, next.0), st.2)) ds
+              (All-tail (Stands m highest) x ds stands_all)));
           below = λ k low under serves.
               ⊎_elim {C = ⊥}
               (λ early. s.below k low early serves)

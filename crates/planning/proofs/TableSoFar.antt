@@ -1,7 +1,7 @@
-use Rattle.std.proofs.Common.{◌≡◌, ℕ, zero, suc, ◌+◌, ◌-◌, ◌<◌, ◌≤◌, Bool, true, false, cond, ◌&&◌, eqb, ltb, List, [], ◌∷◌, ◌++◌, map, length, get_or, MatchBool, sym, refl, ap, ◌∙◌, subst, ⊎_elim, arith, length-append}
-use Rattle.std.specs.List.{ContainsAt as Has}
-use Rattle.std.proofs.ByRecursion.{All-append, All-get_or, All-map, All-weaker, has_append_left, has_append_right}
-use Rattle.std.proofs.lemmas.List.{get_or_append_left, get_or-append_right, get_or-map, map-append}
+use Rattle.std.proofs.Common.{◌≡◌, ℕ, suc, ◌+◌, ◌-◌, ◌<◌, ◌≤◌, Bool, true, false, cond, ◌&&◌, eqb, ltb, Contains, List, [], ◌++◌, map, length, get_or, MatchBool, sym, refl, ap, ◌∙◌, subst, ⊎_elim, arith, length-append}
+use Rattle.std.proofs.lemmas.List.Elements.{All-append, All-get_or, All-map, All-nil, All-weaker, Contains-append_left, Contains-append_right}
+use Rattle.std.proofs.lemmas.List.{get_or_append_left, get_or-append_right, get_or-map, length-map, map-append}
+use Rattle.std.proofs.lemmas.Simd.{map-map}
 use Rattle.std.proofs.lemmas.Bool.{cases_lt, cond-false, cond-true, eq-eqb, ne_eqb, and_from, lt-ltb, or_left, or_right}
 use Rattle.planning.specs.declared.job.Job.{Job}
 use Rattle.planning.specs.declared.job.Row.{Row}
@@ -85,12 +85,8 @@ module _ (jobs : List Job) (count size : ℕ) (G : Gifts) (greedy : IsGreedy (pl
         in
         new.written
         ∙ (ap (λ l. l ++ map (row_at jobs t (fallen before after)) new.positions) old.written
-        ∙ (ap (λ l. map (row_of jobs G) old.places ++ l) (row_alike ∙ map_of_map new.positions)
+        ∙ (ap (λ l. map (row_of jobs G) old.places ++ l) (row_alike ∙ sym (map-map (row_of jobs G) at_frame new.positions))
         ∙ sym (map-append (row_of jobs G) old.places (map at_frame new.positions))))
-      where
-        map_of_map : (is : List ℕ) → map (λ i. row_of jobs G (at_frame i)) is ≡ map (row_of jobs G) (map at_frame is)
-        map_of_map [] = refl
-        map_of_map (i ∷ is) = ap (λ l. row_of jobs G (at_frame i) ∷ l) (map_of_map is)
 
     rises : Rising js (old.places ++ map at_frame new.positions)
     rises a b d low high =
@@ -98,7 +94,7 @@ module _ (jobs : List Job) (count size : ℕ) (G : Gifts) (greedy : IsGreedy (pl
         let qs = map at_frame new.positions in
         let n = length ps in
         let long : length (ps ++ qs) ≡ n + length qs = length-append ps qs in
-        let as_many : length qs ≡ length new.positions = length_of_map new.positions in
+        let as_many : length qs ≡ length new.positions = length-map new.positions at_frame in
         let right : (k : ℕ) → n ≤ k → k < length (ps ++ qs) → get_or (ps ++ qs) k d ≡ at_frame (get_or new.positions (k - n) 0) = λ k over under.
         get_or-append_right ps qs n k d refl over ∙ get_or-map at_frame new.positions (k - n) 0 d (omega arith)
         in
@@ -121,10 +117,6 @@ module _ (jobs : List Job) (count size : ℕ) (G : Gifts) (greedy : IsGreedy (pl
         (new.order (a - n) (b - n) 0 (omega arith) (omega arith)))))
         (cases_lt a n)))
         (cases_lt b n)
-      where
-        length_of_map : (is : List ℕ) → length (map at_frame is) ≡ length is
-        length_of_map [] = refl
-        length_of_map (i ∷ is) = ap suc (length_of_map is)
 
     -- And its rows are added to those of the frames before.
     pub rows_of_one_more : RowsOf jobs (record { count = t + 1; size = size }) G written
@@ -140,24 +132,21 @@ module _ (jobs : List Job) (count size : ℕ) (G : Gifts) (greedy : IsGreedy (pl
               (All-weaker (λ i. (i < length jobs) × (0 < fallen before after i)) (λ i. IsGift js (record { count = t + 1; size = size }) G (at_frame i))
               (λ i g. (omega arith, g.0, omega (arith, g.1, fallen_is_gift i g.0))) new.positions new.gifts));
           all = λ p g.
-              ⊎_elim {C = Has (old.places ++ map at_frame new.positions) p}
-              (λ (early : p.frame < t). has_append_left old.places (map at_frame new.positions) p (old.all p (early, g.1, g.2)))
+              ⊎_elim {C = Contains (old.places ++ map at_frame new.positions) p}
+              (λ (early : p.frame < t). Contains-append_left old.places (map at_frame new.positions) p (old.all p (early, g.1, g.2)))
               (λ (last : t ≤ p.frame).
               let is : t ≡ p.frame = omega (arith, g.0) in
               let gives : 0 < G t p.position = subst (λ h. 0 < G h p.position) (sym is) g.2 in
               let place : at_frame p.position ≡ p = ap (λ h. record { frame = h; position = p.position }) is in
-              has_append_right old.places (map at_frame new.positions) p
-              (subst (Has (map at_frame new.positions)) place
+              Contains-append_right old.places (map at_frame new.positions) p
+              (subst (Contains (map at_frame new.positions)) place
               (has_map new.positions p.position (new.all p.position g.1 (omega (arith, gives, fallen_is_gift p.position g.1))))))
               (cases_lt p.frame t);
         }
       where
-        has_map : (is : List ℕ) (i : ℕ) → Has is i → Has (map at_frame is) (at_frame i)
-        has_map [] i (k, h, at_k) = absurd (omega arith)
-        has_map (j ∷ is) i (zero, h, at_k) = (0, omega arith, λ _. ap at_frame (at_k j))
-        has_map (j ∷ is) i (suc k, h, at_k) =
-            let later = has_map is i (k, omega arith, at_k) in
-            (suc later.0, omega (arith, later.1), later.2)
+        has_map : (is : List ℕ) (i : ℕ) → Contains is i → Contains (map at_frame is) (at_frame i)
+        has_map is i (k, inside, at_k) =
+            (k, omega (arith, length-map is at_frame), get_or-map at_frame is k i (at_frame i) inside ∙ ap at_frame at_k)
 
 -- Before the first frame no row is written.
 pub rows_of_none : (jobs : List Job) (size : ℕ) (G : Gifts) → RowsOf jobs (record { count = 0; size = size }) G []
@@ -166,7 +155,7 @@ rows_of_none jobs size G =
       places = [];
       written = refl;
       rising = λ a b d low high. absurd (omega arith);
-      gifts = tt;
+      gifts = All-nil _;
       all = λ p g. absurd (omega (arith, g.0));
     }
 

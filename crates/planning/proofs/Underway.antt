@@ -1,7 +1,6 @@
-use Rattle.std.proofs.Common.{◌≡◌, ℕ, ◌+◌, ◌-◌, ◌*◌, ◌<◌, ◌≤◌, min, Bool, true, cond, not, ◌&&◌, eqb, ltb, leb, ◌⊎◌, List, [], ◌∷◌, ◌++◌, map, length, get_or, set, sym, refl, ap, ◌∙◌, subst, inl, inr, ⊎_elim, arith}
-use Rattle.std.specs.List.{ContainsAt as Has, AllByRecursion}
+use Rattle.std.proofs.Common.{◌≡◌, ℕ, suc, ◌+◌, ◌-◌, ◌*◌, ◌<◌, ◌≤◌, min, Bool, true, cond, not, ◌&&◌, eqb, ltb, leb, ◌⊎◌, All, Contains, List, [], ◌∷◌, ◌++◌, map, length, get_or, set, sym, refl, ap, ◌∙◌, subst, inl, inr, ⊎_elim, arith}
 use Rattle.std.specs.List.Sorted.{IsPermutation}
-use Rattle.std.proofs.ByRecursion.{All-get_or, All-push, All-weaker, has_append_left, has_push}
+use Rattle.std.proofs.lemmas.List.Elements.{All-get_or, All-nil, All-push, All-weaker, Contains-append_left, Contains-push}
 use Rattle.std.proofs.lemmas.List.{append_assoc, append-nil, get_or_append_left, get_or_push, get_or-set_other, get_or-set_same, length_push, map_push}
 use Rattle.std.proofs.lemmas.Bool.{and_from, and_parts, cases_eq, cases_lt, lt-ltb, both_ways}
 use Rattle.std.proofs.lemmas.Bool.Decides.{nat_tests}
@@ -14,10 +13,10 @@ use Rattle.planning.specs.Placing.{Frames, is_open, is_before}
 use Rattle.planning.specs.FrameRows.{FrameServed, InService, RowsAdded, fallen, row_at}
 use Rattle.planning.specs.Serving.{Serving, ServesFirst}
 use Rattle.planning.specs.Waits.{Holds, lacking, waiting_of, waits_at}
-use Rattle.planning.specs.Windows.{InOrder, Indexed, job_at, placed}
+use Rattle.planning.specs.Windows.{InOrder, job_at, placed}
 use Rattle.planning.proofs.FrameLoop.{frame_begins, frame_ends_lem, frame_goes_on}
 use Rattle.planning.proofs.Sums.{only, only_elsewhere, only_here, sum_at_most, sum_with_more}
-use Rattle.planning.proofs.Weighed.{least_is_before, least_of_waiting, leaves, nobody_waits, rest_holds, stays, taken_waits}
+use Rattle.planning.proofs.Weighed.{least_is_before, least_of_waiting, leaves, nobody_waits, rest_holds, stays}
 
 -- The frame is being served: `held` are those that still wait, and rows were added for the gifts so far.
 pub record Underway (jobs : List Job) (frame size : ℕ) (before after : List ℕ) (left : ℕ) (held : List Waiting) (start rows : List Row) : Type 0 where
@@ -58,32 +57,15 @@ service_begins jobs frame size lacks held rows holds =
             positions = [];
             written = sym (append-nil rows);
             order = λ a b d low high. absurd (omega arith);
-            gifts = tt;
+            gifts = All-nil _;
             all = λ i l some. absurd (omega arith);
           };
     }
 
 -- two functions that agree on each element make the same list
-pub map_alike : {X Y : Type 0} (f g : X → Y) (xs : List X) → AllByRecursion (λ x. f x ≡ g x) xs → map f xs ≡ map g xs
+pub map_alike : {X Y : Type 0} (f g : X → Y) (xs : List X) → All (λ x. f x ≡ g x) xs → map f xs ≡ map g xs
 map_alike f g [] each = refl
-map_alike f g (x ∷ xs) each = ap (λ y. y ∷ map f xs) each.0 ∙ ap (λ ys. g x ∷ ys) (map_alike f g xs each.1)
-
--- The job that is taken from those that wait stands at its task's first position and its number more.
-pub taken_position : (jobs : List Job) (firsts : List ℕ) → Indexed firsts jobs → (waits : ℕ → Bool) (held : List Waiting) → Holds jobs waits held
-    → (x : Waiting) (rest : List Waiting) → IsPermutation held (x ∷ rest) → (p : ℕ) → p ≡ get_or firsts x.task 0 + x.job
-    → (p < length jobs) × (waits p ≡ true) × (x ≡ waiting_of (job_at jobs p)) × (x.task < 16)
-taken_position jobs firsts indexed waits held holds x rest taken p at_p =
-    let found = taken_waits jobs waits held holds x rest taken in
-    let here = indexed found.0 found.1 in
-    let task : x.task ≡ (job_at jobs found.0).task = ap (λ y. y.task) found.3 in
-    let same : found.0 ≡ p =
-    sym (at_p ∙ (ap (λ y. get_or firsts y.task 0 + y.job) found.3 ∙ here.1))
-    in (
-      subst (λ j. j < length jobs) same found.1,
-      subst (λ j. waits j ≡ true) same found.2,
-      subst (λ j. x ≡ waiting_of (job_at jobs j)) same found.3,
-      omega (arith, here.0),
-    )
+map_alike f g (x ∷ xs) each = ap (λ y. y ∷ map f xs) (each 0 x (omega arith)) ∙ ap (λ ys. g x ∷ ys) (map_alike f g xs (λ k d inside. each (suc k) d (omega arith)))
 
 module _ (jobs : List Job) (frame size : ℕ) (before after : List ℕ) (left : ℕ) (held : List Waiting) (start rows : List Row)
     (u : Underway jobs frame size before after left held start rows) where
@@ -177,13 +159,13 @@ module _ (jobs : List Job) (frame size : ℕ) (before after : List ℕ) (left : 
                 (λ i g. (g.0, omega (arith, g.1, alike i (apart_from i g.1)))) ps old.gifts)
                 (inside, omega (arith, gift_here, still_lacks));
             all = λ i l given.
-                ⊎_elim {C = Has (ps ++ p ∷ []) i}
-                (λ (e : i ≡ p). subst (Has (ps ++ p ∷ [])) (sym e) (has_push ps p))
-                (λ (apart : i ≡ p → ⊥). has_append_left ps (p ∷ []) i (old.all i l (omega (arith, alike i apart))))
+                ⊎_elim {C = Contains (ps ++ p ∷ []) i}
+                (λ (e : i ≡ p). subst (Contains (ps ++ p ∷ [])) (sym e) (Contains-push ps p))
+                (λ (apart : i ≡ p → ⊥). Contains-append_left ps (p ∷ []) i (old.all i l (omega (arith, alike i apart))))
                 (cases_eq i p);
           }
         where
-          in_service : (ps : List ℕ) → InService (placed jobs) ps → AllByRecursion (λ i. (i < length jobs) × (0 < fallen before after i)) ps → InService (placed jobs) (ps ++ p ∷ [])
+          in_service : (ps : List ℕ) → InService (placed jobs) ps → All (λ i. (i < length jobs) × (0 < fallen before after i)) ps → InService (placed jobs) (ps ++ p ∷ [])
           in_service ps old gifts a b d low high =
               let long : length (ps ++ p ∷ []) ≡ length ps + 1 = length_push ps p in
               let at_a : get_or (ps ++ p ∷ []) a d ≡ get_or ps a d = get_or_append_left ps (p ∷ []) d a (omega arith) in

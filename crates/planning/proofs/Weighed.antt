@@ -1,9 +1,9 @@
-use Rattle.std.proofs.Common.{◌≡◌, ℕ, ◌+◌, ◌<◌, ◌≤◌, Bool, true, false, cond, not, ◌&&◌, eqb, List, [], ◌∷◌, length, take, set, sum_by, sym, refl, ap, ◌∙◌, subst, ⊎_elim, arith}
-use Rattle.std.specs.List.{AllByRecursion}
+use Rattle.std.proofs.Common.{◌≡◌, ℕ, ◌+◌, ◌*◌, ◌<◌, ◌≤◌, Bool, true, false, cond, not, ◌&&◌, eqb, List, [], ◌∷◌, length, take, set, sum_by, sym, refl, ap, ◌∙◌, subst, ⊎_elim, arith}
 use Rattle.std.specs.List.Sorted.{IsPermutation}
 use Rattle.std.proofs.lemmas.List.{take_more_set}
 use Rattle.std.proofs.lemmas.List.Sorted.{sum_by-IsPermutation}
-use Rattle.std.proofs.lemmas.List.Sums.{sum_by-cons, sum_by_push}
+use Rattle.std.proofs.lemmas.List.Elements.{All-weaker}
+use Rattle.std.proofs.lemmas.List.Sums.{sum_by-cons, sum_by-le, sum_by_push}
 use Rattle.std.proofs.lemmas.Bool.{and_parts, cases_Bool, cases_eq, cases_lt, cond-false, cond-true, eqb-true}
 use Rattle.std.proofs.lemmas.Bool.Decides.{nat_tests}
 use Rattle.orders.specs.Models.{waiting_le}
@@ -95,18 +95,19 @@ module _ (jobs : List Job) (waits : ℕ → Bool) (held : List Waiting) (holds :
   -- What is at most each held job is at most each that waits.
   pub least_of_waiting : (x : Waiting) → Least waiting_le x held → (i : ℕ) → i < length jobs → waits i ≡ true → waiting_le x (waiting_of (job_at jobs i)) ≡ true
   least_of_waiting x least i l waiting =
-      let over : Waiting → ℕ = λ y. cond (waiting_le x y) 0 1 in
       ⊎_elim {C = waiting_le x (waiting_of (job_at jobs i)) ≡ true}
       (λ yes. yes)
       (λ no.
       absurd
-      (omega (arith, holds over, none_over over held least, term_at_most_sum (length jobs) (weighed jobs waits over) i l, cond-true {A = ℕ} (waits i) (over (waiting_of (job_at jobs i))) 0 waiting, cond-false {A = ℕ} (waiting_le x (waiting_of (job_at jobs i))) 0 1 no)))
+      (omega (arith, holds over, none_over, term_at_most_sum (length jobs) (weighed jobs waits over) i l, cond-true {A = ℕ} (waits i) (over (waiting_of (job_at jobs i))) 0 waiting, cond-false {A = ℕ} (waiting_le x (waiting_of (job_at jobs i))) 0 1 no)))
       (cases_Bool (waiting_le x (waiting_of (job_at jobs i))))
     where
-      none_over : (over : Waiting → ℕ) (ys : List Waiting) → AllByRecursion (λ y. waiting_le x y ≡ true) ys → sum_by (λ y. cond (waiting_le x y) 0 1) ys ≡ 0
-      none_over over [] each = refl
-      none_over over (y ∷ ys) each =
-          omega (arith, sum_by-cons (λ y. cond (waiting_le x y) 0 1) y ys, none_over over ys each.1, cond-true {A = ℕ} (waiting_le x y) 0 1 each.0)
+      over : Waiting → ℕ
+      over y = cond (waiting_le x y) 0 1
+
+      none_over : sum_by over held ≤ length held * 0
+      none_over =
+          sum_by-le over 0 held (All-weaker (λ y. waiting_le x y ≡ true) (λ y. over y ≤ 0) (λ y le. omega (arith, cond-true {A = ℕ} (waiting_le x y) 0 1 le)) held least)
 
   module _ (x : Waiting) (rest : List Waiting) (taken : IsPermutation held (x ∷ rest)) where
     -- What is taken is a job that waits.

@@ -1,5 +1,4 @@
-use Rattle.std.specs.Prelude.{◌≡◌, ℕ, ◌+◌, ◌-◌, ◌<◌, ◌≤◌, true, List, ◌++◌, map, length, slice_index, slice_index_or}
-use Rattle.std.specs.List.{ContainsAt as Has, AllByRecursion}
+use Rattle.std.specs.Prelude.{◌≡◌, ℕ, ◌+◌, ◌-◌, ◌<◌, ◌≤◌, true, All, Contains, List, ◌++◌, map, length, slice_index, slice_index_or}
 use Rattle.planning.specs.declared.job.Job.{Job}
 use Rattle.planning.specs.declared.job.Row.{Row}
 use Rattle.planning.specs.Placing.{Jobs, Frames, Gifts, is_before, given}
@@ -29,8 +28,8 @@ pub record RowsAdded (jobs : List Job) (frame : ℕ) (row : ℕ → ℕ) (before
   pub positions : List ℕ
   pub written : after ≡ before ++ map (row_at jobs frame row) positions
   pub order : InService (placed jobs) positions
-  pub gifts : AllByRecursion (λ i. (i < length jobs) × (0 < row i)) positions
-  pub all : (i : ℕ) → i < length jobs → 0 < row i → Has positions i
+  pub gifts : All (λ i. (i < length jobs) × (0 < row i)) positions
+  pub all : (i : ℕ) → i < length jobs → 0 < row i → Contains positions i
 
 -- A frame was served: no job lacks more than before, and what each now lacks less is what a frame of that
 -- size gives to those that lacked so much.

@@ -17,3 +17,4 @@ pub mod Candidates
 pub mod Serving
 pub mod Waits
 pub mod FrameRows
+pub mod OrderKept

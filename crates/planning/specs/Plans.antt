@@ -1,4 +1,5 @@
 use Rattle.std.specs.Prelude.{◌≡◌, ℕ, ◌/◌, ◌<◌, ◌≤◌, cond, ◌⊎◌, List, [], length, Some, None, Ok, Err, vec_items, Option, Result, nat_lt, slice_index, slice_index_or}
+use Rattle.arrayvec.specs.ArrayVec.{array_vec_len}
 use Rattle.books.specs.Meaning.{Meaning}
 use Rattle.planning.specs.declared.job.Figures.{Figures}
 use Rattle.planning.specs.declared.job.Job.{Job}
@@ -62,9 +63,13 @@ Sought m figures ceiling (Ok h) =
     CeilingInRange ceiling × CountInRange m × Charged figures m.count × LeastHyperperiod m ceiling h
 Sought m figures ceiling (Err refusal) = PlanDue m figures ceiling (number refusal) (place refusal)
 
+-- How many tasks a plan has a period for.
+abbrev pub tasks_in : Plan → ℕ
+tasks_in plan = array_vec_len plan.periods
+
 -- The period that a plan has for a task.
 abbrev pub period_in : Plan → ℕ → ℕ
-period_in plan task = slice_index plan.periods task
+period_in plan task = slice_index plan.periods.items task
 
 -- The row at a place of a list of rows; none beyond the last.
 abbrev pub row_in : List Row → ℕ → Option Row
@@ -75,7 +80,7 @@ pub record Nothing (plan : Plan) : Type 0 where
   pub hyperperiod : plan.hyperperiod ≡ 0
   pub size : plan.frame_size ≡ 0
   pub frames : plan.frames ≡ 0
-  pub tasks : plan.tasks ≡ 0
+  pub tasks : tasks_in plan ≡ 0
   pub jobs : plan.jobs ≡ 0
   pub rows : vec_items plan.rows ≡ []
 
@@ -83,7 +88,7 @@ pub record Nothing (plan : Plan) : Type 0 where
 -- other choice, the number of jobs, the largest permitted size that some table fills, and the rows of the
 -- greedy table.
 pub record Planned (m : Meaning) (figures : List (Option Figures)) (ceiling : ℕ) (plan : Plan) : Type 0 where
-  pub tasks : plan.tasks ≡ m.count
+  pub tasks : tasks_in plan ≡ m.count
   pub prepared : Prepared m figures ceiling plan.hyperperiod (period_in plan)
   pub work : LeastWork m plan.hyperperiod (figures_at figures) (period_in plan)
   pub jobs : plan.jobs ≡ jobs_in plan.hyperperiod (period_in plan) m.count

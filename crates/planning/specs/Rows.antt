@@ -1,5 +1,4 @@
-use Rattle.std.specs.Prelude.{◌≡◌, ℕ, ◌+◌, ◌<◌, ◌≤◌, Bool, true, ◌&&◌, ◌||◌, List, map, length, ◌==◌, nat_lt, slice_index_or}
-use Rattle.std.specs.List.{ContainsAt as Has, AllByRecursion}
+use Rattle.std.specs.Prelude.{◌≡◌, ℕ, ◌+◌, ◌<◌, ◌≤◌, Bool, true, ◌&&◌, ◌||◌, All, Contains, List, map, length, ◌==◌, nat_lt, slice_index_or}
 use Rattle.planning.specs.declared.job.Job.{Job}
 use Rattle.planning.specs.declared.job.Row.{Row}
 use Rattle.planning.specs.Placing.{Jobs, Frames, Gifts, IsGreedy, is_before}
@@ -38,8 +37,8 @@ pub record RowsOf (jobs : List Job) (fr : Frames) (G : Gifts) (rows : List Row) 
   pub places : List Place
   pub written : rows ≡ map (row_of jobs G) places
   pub rising : Rising (placed jobs) places
-  pub gifts : AllByRecursion (IsGift (placed jobs) fr G) places
-  pub all : (p : Place) → IsGift (placed jobs) fr G p → Has places p
+  pub gifts : All (IsGift (placed jobs) fr G) places
+  pub all : (p : Place) → IsGift (placed jobs) fr G p → Contains places p
 
 -- The rows are those of the greedy table.
 abbrev pub GreedyRows : List Job → Frames → List Row → Type 0

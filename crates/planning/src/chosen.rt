@@ -2,6 +2,7 @@
 
 ghost use Rattle.planning.specs.Hyperperiod.{ChosenOrNone};
 
+use crate::hyperperiod::HIGHEST;
 use books::Book;
 
 // The greatest period allowed to the task that divides the number; none where no allowed period
@@ -10,18 +11,15 @@ use books::Book;
 pub fn chosen_period<B: Book>(book: &B, task: u32, number: u32) -> Option<u32>
     ensures { ChosenOrNone (B.Book.means book.now) number task result }
 {
-    if number < 1 || number > 1_000_000 {
+    if !(1..=HIGHEST).contains(&number) {
         return None;
     }
     let least = book.next_allowed(task, 1)?;
-    let most = number / least;
-    let mut times = 1;
-    while times <= most {
+    for times in 1..=number / least {
         let period = number / times;
         if period * times == number && book.allows(task, period) {
             return Some(period);
         }
-        times += 1;
     }
     None
 }

@@ -1,6 +1,8 @@
 ghost use Rattle.std.specs.Prelude.{◌≤◌, vec_len, vec_capacity};
+ghost use Rattle.arrayvec.specs.ArrayVec.{array_vec_len};
 
 use crate::job::Row;
+use arrayvec::ArrayVec;
 
 pub mod make;
 pub mod reads;
@@ -12,11 +14,10 @@ pub struct Plan {
     hyperperiod: u32,
     frame_size: u32,
     frames: u32,
-    tasks: u32,
-    periods: [u32; 16],
+    periods: ArrayVec<u32, 16>,
     jobs: u32,
     rows: Vec<Row>,
-    ghost few: { tasks ≤ 16 },
+    ghost few: { array_vec_len periods ≤ 16 },
     ghost short: { vec_len rows ≤ 1280 },
     ghost room: { 1280 ≤ vec_capacity rows },
 }

@@ -14,7 +14,7 @@ pub enum Refusal {
 }
 
 impl Refusal {
-    // The number of the question that got a no.
+    // The number of the question that got a no, for those who print it: code matches on the cases.
     pub fn number(self) -> u32
         ensures { result ≡ number_of self }
     {
@@ -28,7 +28,7 @@ impl Refusal {
         }
     }
 
-    // The task that the refusal is about, or 0.
+    // The task that the refusal is about, or 0, as the rules write it.
     pub fn place(self) -> u32
         ensures { result ≡ place_of self }
     {

@@ -1,7 +1,6 @@
-use Rattle.std.proofs.Common.{◌≡◌, ℕ, suc, ◌+◌, ◌-◌, ◌<◌, ◌≤◌, min, List, [], ◌∷◌, ◌++◌, map, length, set, replicate, Some, None, Option, sym, refl, ap, ◌∙◌, subst, inl, inr, ⊎_elim, append_assoc, append-nil, arith}
-use Rattle.std.specs.List.{AllByRecursion}
-use Rattle.std.proofs.ByRecursion.{All-append}
+use Rattle.std.proofs.Common.{◌≡◌, ℕ, suc, ◌+◌, ◌-◌, ◌<◌, ◌≤◌, min, List, [], ◌∷◌, ◌++◌, map, length, set, replicate, All, Some, None, Option, sym, refl, ap, ◌∙◌, subst, inl, inr, ⊎_elim, append_assoc, append-nil, arith}
 use Rattle.std.proofs.lemmas.List.{length-append, length-map, length_push, map_push, set_at}
+use Rattle.std.proofs.lemmas.List.Elements.{All-append, All-head, All-tail}
 use Rattle.std.proofs.lemmas.Bool.{cases_lt, true≢false}
 use Rattle.std.proofs.lemmas.Bool.Decides.{nat_tests}
 use Rattle.books.specs.Meaning.{Meaning}
@@ -46,7 +45,7 @@ not_last answer calls ceiling is (inr none) = omega (arith, length_push calls (P
 
 module _ (m : Meaning) (figures : List Figures) (ceiling : ℕ) (answer : Answer) (after : Account) (counted : m.count ≡ min 17 (length figures)) where
   -- From an account with the first n figures noted on, the calls that are left come to the last answer.
-  left_pass : (done left : List Figures) (n : ℕ) (a : Account) → length done ≡ n → done ++ left ≡ figures → n ≤ 16 → a.figures ≡ noted_figures done → AllByRecursion InRange left
+  left_pass : (done left : List Figures) (n : ℕ) (a : Account) → length done ≡ n → done ++ left ≡ figures → n ≤ 16 → a.figures ≡ noted_figures done → All InRange left
       → Carried m a (charges_from n left ++ Plan ceiling ∷ []) answer after → LastAnswer m figures ceiling answer
   left_pass done [] n a sized split few noted ranged (inl last) =
       let all : done ≡ figures = sym (append-nil done) ∙ split in
@@ -58,7 +57,7 @@ module _ (m : Meaning) (figures : List Figures) (ceiling : ℕ) (answer : Answer
   left_pass done (f ∷ left) n a sized split few noted ranged (inl last) =
       let long : n < length figures = omega (arith, length-append done (f ∷ left), ap length split) in
       ⊎_elim
-      (λ (below : n < 16). absurd (not_last answer (charges_from (n + 1) left) ceiling (last.0 ∙ charge_passes m.count n f (omega arith) below ranged.0) last.3))
+      (λ (below : n < 16). absurd (not_last answer (charges_from (n + 1) left) ceiling (last.0 ∙ charge_passes m.count n f (omega arith) below (All-head InRange f left ranged)) last.3))
       (λ (past : 16 ≤ n). record {
         many = λ above. last.0 ∙ past_refused m.count n f past ∙ ap (λ task. Refused (TaskOutOfRange task)) (omega arith);
         few = λ all. absurd (omega arith);
@@ -68,10 +67,10 @@ module _ (m : Meaning) (figures : List Figures) (ceiling : ℕ) (answer : Answer
       let long : n < length figures = omega (arith, length-append done (f ∷ left), ap length split) in
       ⊎_elim
       (λ (below : n < 16).
-      let granted : more.0 ≡ Charged = more.2 ∙ charge_passes m.count n f (omega arith) below ranged.0 in
+      let granted : more.0 ≡ Charged = more.2 ∙ charge_passes m.count n f (omega arith) below (All-head InRange f left ranged) in
       left_pass (done ++ f ∷ []) left (n + 1) (hear a (Charge n f.cost f.deadline) Charged)
       (omega (arith, length_push done f)) (append_assoc done (f ∷ []) left ∙ split) (omega arith)
-      (ap (λ figures. set figures n (Some f)) noted ∙ noted_more done f n sized below) ranged.1
+      (ap (λ figures. set figures n (Some f)) noted ∙ noted_more done f n sized below) (All-tail InRange f left ranged)
       (subst (λ first. Carried m (hear a (Charge n f.cost f.deadline) first) (charges_from (n + 1) left ++ Plan ceiling ∷ []) answer after) granted more.4))
       (λ (past : 16 ≤ n). absurd (true≢false (sym more.1 ∙ ap is_granted (more.2 ∙ past_refused m.count n f past))))
       (cases_lt n 16)

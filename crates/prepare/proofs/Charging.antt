@@ -1,5 +1,5 @@
-use Rattle.std.proofs.Common.{◌≡◌, ℕ, ◌+◌, ◌<◌, ◌≤◌, List, ◌∷◌, ◌++◌, length, get_or, drop, Ok, Err, sym, refl, ap, ◌∙◌, subst, inl, inr, arith}
-use Rattle.std.proofs.lemmas.List.{drop_all, drop_more}
+use Rattle.std.proofs.Common.{◌≡◌, ℕ, ◌+◌, ◌<◌, List, ◌∷◌, ◌++◌, length, get_or, drop, sym, refl, ap, ◌∙◌, subst, inr, arith}
+use Rattle.std.proofs.lemmas.List.{drop_more}
 use Rattle.books.specs.Meaning.{Meaning}
 use Rattle.planning.specs.declared.job.Figures.{Figures}
 use Rattle.run.specs.Account.{Account, hear}
@@ -7,12 +7,11 @@ use Rattle.run.specs.Agrees.{Agrees, Carries}
 use Rattle.run.specs.Kept.{Kept}
 use Rattle.run.specs.Right.{Right}
 use Rattle.run.specs.declared.call.Answer.{Answer}
-use Rattle.run.specs.declared.call.Answer.TheVariants.{Charged, Refused}
+use Rattle.run.specs.declared.call.Answer.TheVariants.{Charged}
 use Rattle.run.specs.declared.call.Call.{Call}
 use Rattle.run.specs.declared.call.Call.TheVariants.{Charge}
 use Rattle.run.specs.declared.planner.Planner.{Planner}
-use Rattle.run.specs.declared.refusal.Refusal.{Refusal}
-use Rattle.prepare.specs.Charges.{Carried, ChargesMade, charges_from}
+use Rattle.prepare.specs.Charges.{Carried, charges_from}
 
 -- The first k charges are granted: carrying out the others, and any calls after them, carries out all.
 abbrev pub GrantedTo : {B : Type 0} → (B → Meaning) → Planner B → Planner B → ℕ → List Figures → ℕ → Type 0
@@ -57,36 +56,5 @@ charge_granted means p q r first figures k below before here = (
               subst (λ book. Kept (means book) (hear b.0 call Charged)) before.0 (here.kept b.0 b.1),
               carried,
             ))),
-      ),
-)
-
-pub charge_refused : {B : Type 0} (means : B → Meaning) (p q r : Planner B) (first : ℕ) (figures : List Figures) (k : ℕ) (refusal : Refusal) → k < length figures
-    → GrantedTo means p q first figures k
-    → Carries means q r (Charge (first + k) (get_or figures k beyond).cost (get_or figures k beyond).deadline) (Refused refusal)
-    → ChargesMade means p r first figures (Err refusal)
-charge_refused means p q r first figures k refusal below before here = λ a agrees rest.
-    let b = before.1 a agrees in
-    let call = Charge (first + k) (get_or figures k beyond).cost (get_or figures k beyond).deadline in (
-      hear b.0 call (Refused refusal),
-      b.2 rest (Refused refusal) (hear b.0 call (Refused refusal))
-          (subst (λ calls. Carried (means p.book) b.0 calls (Refused refusal) (hear b.0 call (Refused refusal))) (sym (next_charge first figures k rest below))
-          (inl (
-            subst (λ book. Right (means book) b.0 call (Refused refusal)) before.0 (here.right b.0 b.1),
-            subst (λ book. Kept (means book) (hear b.0 call (Refused refusal))) before.0 (here.kept b.0 b.1),
-            refl,
-            inl refl,
-          ))),
-    )
-
-pub all_granted : {B : Type 0} (means : B → Meaning) (p q : Planner B) (first : ℕ) (figures : List Figures) (k : ℕ) → length figures ≤ k
-    → GrantedTo means p q first figures k → ChargesMade means p q first figures (Ok tt)
-all_granted means p q first figures k all before = (
-  before.0,
-  λ a agrees.
-      let b = before.1 a agrees in (
-        b.0,
-        b.1,
-        λ rest answer after carried. b.2 rest answer after
-            (subst (λ left. Carried (means p.book) b.0 (charges_from (first + k) left ++ rest) answer after) (sym (drop_all k figures all)) carried),
       ),
 )

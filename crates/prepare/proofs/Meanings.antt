@@ -1,4 +1,4 @@
-use Rattle.std.proofs.Common.{◌≡◌, ℕ, List, ◌++◌, IfOk as made, Ok, Err, Result, ap, ◌∙◌, subst}
+use Rattle.std.proofs.Common.{◌≡◌, ℕ, List, ◌++◌, IfOk as made, Ok, Err, ap, ◌∙◌, subst}
 use Rattle.books.specs.Meaning.{Meaning}
 use Rattle.books.specs.Sets.{beside, gridded, lists_of, ranges_of}
 use Rattle.books.specs.declared.grid.Grid.{Grid}
@@ -78,8 +78,3 @@ fault_is_due ranges lists step ceiling (InSheet sheet fault) first second p q st
 fault_is_due ranges lists step ceiling (InPlanner refusal) first second p q stand holds also agrees meaning made =
     let last = made empty agrees in
     (last.0, sheets_carried ranges lists step ceiling first second (book_means p.book) (Refused refusal) last.0 stand holds also meaning last.1)
-
--- Two facts of a value that was made give a third.
-pub made_both : {X Y : Type 0} (r : Result X Y) (P Q R : X → Type 0) → ((x : X) → P x → Q x → R x) → made r P → made r Q → made r R
-made_both (Ok x) P Q R both p q = both x p q
-made_both (Err y) P Q R both p q = tt

@@ -1,5 +1,4 @@
 use Rattle.std.specs.Prelude.{◌≡◌, ℕ, ◌-◌, ◌<◌, ◌≤◌, List, ◌++◌, map, length, replicate, Some, None, Ok, Err, Option, Result}
-use Rattle.std.specs.declared.alloc.AllocError.{AllocError}
 use Rattle.books.specs.Meaning.{Meaning}
 use Rattle.books.specs.Sets.{beside, beside_of, gridded, gridded_of, lists_of, ranges_of}
 use Rattle.books.specs.declared.grid.Grid.{Grid}
@@ -22,6 +21,8 @@ use Rattle.sheets.specs.Sheets.{figures_in, meaning_of, sheet_fault, tasks_of}
 use Rattle.sheets.specs.declared.fault.SheetFault.{SheetFault}
 use Rattle.sheets.specs.declared.tasks.Tasks.{Tasks}
 use Rattle.prepare.specs.Charges.{Carried, StandsAsGranted, calls_for}
+use Rattle.prepare.specs.declared.fault.PrepareError.{PrepareError}
+use Rattle.prepare.specs.declared.fault.PrepareError.TheVariants.{Fault, Memory}
 use Rattle.prepare.specs.declared.fault.PrepareFault.{PrepareFault}
 use Rattle.prepare.specs.declared.fault.PrepareFault.TheVariants.{InPlanner, InSheet}
 use Rattle.prepare.specs.declared.fault.Sheet.{Sheet}
@@ -90,9 +91,10 @@ Answered ranges lists step ceiling before after (Ok granted) = Ready ranges list
 Answered ranges lists step ceiling before after (Err fault) = FaultDue ranges lists step ceiling fault × (after ≡ before)
 
 -- Where memory is wanting there is no answer: neither sheet is refused, and the planner is as it was.
-abbrev pub PrepareAnswer : List ℕ → List ℕ → ℕ → ℕ → Planner (Grid (SideBySide RangeBook ListBook)) → Planner (Grid (SideBySide RangeBook ListBook)) → Result (Result Granted PrepareFault) AllocError → Type 0
-PrepareAnswer ranges lists step ceiling before after (Ok answer) = Answered ranges lists step ceiling before after answer
-PrepareAnswer ranges lists step ceiling before after (Err wanting) = BothStand ranges lists × (after ≡ before)
+abbrev pub PrepareAnswer : List ℕ → List ℕ → ℕ → ℕ → Planner (Grid (SideBySide RangeBook ListBook)) → Planner (Grid (SideBySide RangeBook ListBook)) → Result Granted PrepareError → Type 0
+PrepareAnswer ranges lists step ceiling before after (Ok granted) = Answered ranges lists step ceiling before after (Ok granted)
+PrepareAnswer ranges lists step ceiling before after (Err (Fault fault)) = Answered ranges lists step ceiling before after (Err fault)
+PrepareAnswer ranges lists step ceiling before after (Err (Memory wanting)) = BothStand ranges lists × (after ≡ before)
 
 -- Both sheets read: their tasks, or the refusal that is due.
 abbrev pub BothRead : List ℕ → List ℕ → Result (Tasks RangeBook × Tasks ListBook) PrepareFault → Type 0
@@ -102,8 +104,3 @@ BothRead ranges lists (Ok tasks) =
     × Holds lists_of tasks.1 (tasks_of list_layout lists)
 BothRead ranges lists (Err (InSheet sheet fault)) = SheetDue ranges lists sheet fault
 BothRead ranges lists (Err (InPlanner refusal)) = ⊥
-
--- What was read, or the fault with its sheet.
-abbrev pub placed_in : {T : Type 0} → Sheet → Result T SheetFault → Result T (Sheet × SheetFault)
-placed_in sheet (Ok tasks) = Ok tasks
-placed_in sheet (Err fault) = Err (sheet, fault)

@@ -7,5 +7,5 @@ pub mod charges;
 pub mod fault;
 pub mod preparing;
 
-pub use fault::{PrepareFault, Sheet};
+pub use fault::{PrepareError, PrepareFault, Sheet};
 pub use preparing::{SheetPlanner, blank, prepare};

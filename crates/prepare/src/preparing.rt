@@ -6,13 +6,13 @@ ghost use Rattle.sheets.specs.Reads.{figures_held};
 ghost use Rattle.run.specs.Account.{empty};
 ghost use Rattle.run.specs.Agrees.{Agrees};
 ghost use Rattle.prepare.specs.Charges.{PlanMade};
-ghost use Rattle.prepare.specs.Prepared.{BothRead, PrepareAnswer, book_means, placed_in, sheets_meaning};
+ghost use Rattle.prepare.specs.Prepared.{BothRead, PrepareAnswer, book_means, sheets_meaning};
 
 use crate::charges::charge_all;
-use crate::fault::{PrepareFault, Sheet};
+use crate::fault::{PrepareError, PrepareFault, Sheet};
 use books::{Book, Grid, ListBook, RangeBook, SideBySide};
 use run::{Granted, Planner};
-use sheets::{SheetFault, Tasks, read_lists, read_ranges};
+use sheets::{Tasks, read_lists, read_ranges};
 use std::alloc::{AllocError, Global};
 
 // A planner on a range book and a list book, side by side on a grid.
@@ -38,7 +38,7 @@ pub fn blank(heap: Global) -> Result<SheetPlanner, AllocError>
 }
 
 // Reads both sheets, makes a planner on their books, charges every task in its order and plans; answers
-// as the plan does, and the caller's planner becomes that one. On a fault it stays as it was.
+// as the plan does, and the caller's planner becomes that one. On an error it stays as it was.
 pub fn prepare(
     heap: Global,
     ranges: &[u8],
@@ -46,21 +46,14 @@ pub fn prepare(
     step: u32,
     ceiling: u32,
     planner: &mut SheetPlanner,
-) -> Result<Result<Granted, PrepareFault>, AllocError>
+) -> Result<Granted, PrepareError>
     ensures { PrepareAnswer ranges.now lists.now step ceiling planner.old planner.new result }
 {
-    let (ranges, lists) = match read_both(ranges, lists) {
-        Ok(tasks) => tasks,
-        Err(fault) => return Ok(Err(fault)),
-    };
+    let (ranges, lists) = read_both(ranges, lists)?;
     let mut fresh = planner_on(heap, *ranges.book(), *lists.book(), step)?;
-    match charge_and_plan(&mut fresh, &ranges, &lists, ceiling) {
-        Ok(granted) => {
-            *planner = fresh;
-            Ok(Ok(granted))
-        }
-        Err(fault) => Ok(Err(fault)),
-    }
+    let granted = charge_and_plan(&mut fresh, &ranges, &lists, ceiling)?;
+    *planner = fresh;
+    Ok(granted)
 }
 
 // The tasks of both sheets; the range sheet is read first.
@@ -70,19 +63,9 @@ fn read_both(
 ) -> Result<(Tasks<RangeBook>, Tasks<ListBook>), PrepareFault>
     ensures { BothRead ranges.now lists.now result }
 {
-    let ranges = of_sheet(Sheet::Ranges, read_ranges(ranges))?;
-    let lists = of_sheet(Sheet::Lists, read_lists(lists))?;
+    let ranges = read_ranges(ranges).map_err(|fault| (Sheet::Ranges, fault))?;
+    let lists = read_lists(lists).map_err(|fault| (Sheet::Lists, fault))?;
     Ok((ranges, lists))
-}
-
-// What was read, or the fault with its sheet.
-fn of_sheet<T>(sheet: Sheet, read: Result<T, SheetFault>) -> Result<T, (Sheet, SheetFault)>
-    ensures { result ≡ placed_in sheet read }
-{
-    match read {
-        Ok(tasks) => Ok(tasks),
-        Err(fault) => Err((sheet, fault)),
-    }
 }
 
 // Charges the tasks of the range sheet, then those of the list sheet, and plans.

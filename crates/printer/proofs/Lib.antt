@@ -1,7 +1,7 @@
 mod DecimalLength
-mod LineLength
-mod LinesLength
 mod PeriodsTaken
 mod Writing
+mod RoomLeft
+mod RowsLined
 mod PlanLines
 mod StandingPrinted

@@ -1,7 +1,7 @@
 use Rattle.std.proofs.Common.{◌≡◌, ℕ, List, Some, None, vec_items, Option, Result, sym, ap, ◌∙◌, subst, arith}
 use Rattle.books.specs.Meaning.{Meaning}
 use Rattle.planning.specs.declared.plan.Plan.{Plan}
-use Rattle.planning.specs.Plans.{Planned, jobs_in, period_in}
+use Rattle.planning.specs.Plans.{Planned, jobs_in, period_in, tasks_in}
 use Rattle.run.specs.Account.{Standing}
 use Rattle.run.specs.Agrees.{StandingRead}
 use Rattle.run.proofs.Agreement.{keeps_plan}
@@ -17,7 +17,7 @@ text_by_meaning m k ceiling plan h s made =
     subst (λ x. TextOf m x (text_of plan)) (sym (keeps_plan k plan h s)) (record {
       rows = rows;
       table = record { period = period_in plan; chosen = made.prepared.chosen; greedy = made.rows };
-      written = ap (λ jobs. text jobs plan.tasks) made.jobs ∙ ap (text (jobs_in plan.hyperperiod (period_in plan) m.count)) made.tasks;
+      written = ap (λ jobs. text jobs (tasks_in plan)) made.jobs ∙ ap (text (jobs_in plan.hyperperiod (period_in plan) m.count)) made.tasks;
     })
 
 -- Where the plan that stands is written or found too long, it is printed.

@@ -1,4 +1,4 @@
-use Rattle.std.proofs.Common.{◌≡◌, ℕ, ◌+◌, ◌-◌, ◌<◌, List, [], ◌∷◌, ◌++◌, length, take, drop, set, sym, ap, ◌∙◌, subst, arith}
+use Rattle.std.proofs.Common.{◌≡◌, ℕ, ◌+◌, ◌-◌, ◌<◌, ◌≤◌, List, [], ◌∷◌, ◌++◌, length, take, drop, set, sym, ap, ◌∙◌, subst, arith}
 use borrow.Rule.Slice.PartMut.{put_mid}
 use Rattle.std.proofs.lemmas.List.{append_assoc, append-nil, length-append, length-drop, drop_all, drop-drop, drop_more, set_at, take_at, drop_at, take_rest}
 use Rattle.printer.specs.Puts.{Puts}
@@ -22,18 +22,25 @@ part_put text part before out tail at n p q =
       behind = rw (front, none, append-nil tail, tail_is) (sym (append_assoc text part (drop (at + n) before)));
     }
 
--- A text is being written into a buffer: a front of it is put there, and this much is left.
+-- A text is being written into a buffer: a front of it is put there, this much is left, and the buffer has room for it.
 pub record Writing (text left before out : List ℕ) (at : ℕ) : Type 0 where
   pub done : List ℕ
   pub whole : text ≡ done ++ left
   pub put : Puts done before out at
+  pub room : at + length left ≤ length before
 
--- The next part is written.
-pub part_written : (text part left before out tail : List ℕ) (at n : ℕ) → Writing text (part ++ left) before out at → Puts part (take (length out - at) (drop at out)) tail n → Writing text left before (put_mid at (length out - at) out tail) (at + n)
-part_written text part left before out tail at n w p = record {
+-- The next part of what is left is written.
+pub part_written :
+    (text left part rest before out tail : List ℕ) (at n : ℕ)
+    → left ≡ part ++ rest
+    → Writing text left before out at
+    → Puts part (take (length out - at) (drop at out)) tail n
+    → Writing text rest before (put_mid at (length out - at) out tail) (at + n)
+part_written text left part rest before out tail at n next w p = record {
   done = w.done ++ part;
-  whole = w.whole ∙ sym (append_assoc w.done part left);
+  whole = w.whole ∙ ap (λ l. w.done ++ l) next ∙ sym (append_assoc w.done part rest);
   put = part_put w.done part before out tail at n w.put p;
+  room = omega (arith, w.room, p.count, ap length next, length-append part rest);
 }
 
 -- A text of which nothing is left is written.

@@ -1,7 +1,7 @@
 use Rattle.std.specs.Prelude.{ℕ, zero, suc, ◌+◌, List, [], ◌∷◌, ◌++◌, length, vec_items, codes, decimal}
 use Rattle.planning.specs.declared.job.Row.{Row}
 use Rattle.planning.specs.declared.plan.Plan.{Plan}
-use Rattle.planning.specs.Plans.{period_in}
+use Rattle.planning.specs.Plans.{period_in, tasks_in}
 
 -- Each number after a comma, in decimal digits.
 abbrev pub numbers_text : List ℕ → List ℕ
@@ -17,6 +17,12 @@ line_text word numbers = word ++ (numbers_text numbers ++ 10 ∷ [])
 abbrev pub plan_line : ℕ → ℕ → ℕ → ℕ → List ℕ
 plan_line hyperperiod size jobs rows = line_text (codes "plan") (hyperperiod ∷ size ∷ jobs ∷ rows ∷ [])
 
+-- A line of the word for each item of a list, with the numbers that the item has at its place; the first place is the
+-- given one.
+abbrev pub lines_text : {T : Type 0} → List ℕ → (ℕ → T → List ℕ) → ℕ → List T → List ℕ
+lines_text word numbers place [] = []
+lines_text word numbers place (item ∷ items) = line_text word (numbers place item) ++ lines_text word numbers (place + 1) items
+
 -- A line for each period, the first of which is that of the given task.
 abbrev pub period_lines : ℕ → List ℕ → List ℕ
 period_lines task [] = []
@@ -30,6 +36,11 @@ slice_numbers row = row.frame ∷ row.task ∷ row.job ∷ row.length ∷ []
 abbrev pub slice_lines : List Row → List ℕ
 slice_lines [] = []
 slice_lines (row ∷ rows) = line_text (codes "slice") (slice_numbers row) ++ slice_lines rows
+
+-- The lines of a plan: its own, with these numbers; a line for each task's period, from task 0 on; and a line for each
+-- row.
+abbrev pub lines_of : List ℕ → List ℕ → List Row → List ℕ
+lines_of numbers periods rows = line_text (codes "plan") numbers ++ (period_lines 0 periods ++ slice_lines rows)
 
 -- The text of a plan: its line, with the number of the slice lines that follow; a line for each task's period,
 -- from task 0 on; and a line for each row.
@@ -45,12 +56,7 @@ periods_to (suc n) period = periods_to n period ++ period n ∷ []
 -- The text of a finished plan.
 abbrev pub text_of : Plan → List ℕ
 text_of plan =
-    plan_text plan.hyperperiod plan.frame_size plan.jobs (periods_to plan.tasks (period_in plan)) (vec_items plan.rows)
-
--- How many bytes the lines of a plan take: its own, with these numbers, those of its periods and those of its rows.
-abbrev pub length_of : List ℕ → List ℕ → List Row → ℕ
-length_of numbers periods rows =
-    4 + length (numbers_text numbers) + 1 + (length (period_lines 0 periods) + length (slice_lines rows))
+    plan_text plan.hyperperiod plan.frame_size plan.jobs (periods_to (tasks_in plan) (period_in plan)) (vec_items plan.rows)
 
 -- The line of a refusal: the number of its question, the sheet, the line and the field.
 abbrev pub refused_line : ℕ → ℕ → ℕ → ℕ → List ℕ

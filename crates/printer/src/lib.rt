@@ -4,6 +4,7 @@
 #![tactic(auto)]
 
 mod line;
+mod lines;
 mod measure;
 pub mod printing;
 pub mod refusal;

@@ -9,10 +9,10 @@ fn digits(n: u32) -> usize
     ensures count { result ≡ length (decimal n) }
     ensures few { result ≤ 10 }
 {
-    if n < 10 {
-        return 1;
+    match n.checked_ilog10() {
+        Some(power) => power as usize + 1,
+        None => 1,
     }
-    digits(n / 10) + 1
 }
 
 // How many bytes the line takes.
@@ -30,6 +30,7 @@ pub(crate) fn line_len(word: &[u8], numbers: &[u32]) -> usize
 }
 
 // Writes the digits of the number into the front of the buffer, and answers how many they are.
+// By hand, since the library does not tell which bytes its writer leaves in a lent slice.
 fn write_number(out: &mut [u8], n: u32) -> usize
     requires { length (decimal n) ≤ length out.old }
     ensures { Puts (decimal n) out.old out.new result }
@@ -53,6 +54,7 @@ fn write_field(out: &mut [u8], n: u32) -> usize
 }
 
 // Writes each number after a comma.
+// A loop of its own beside `write_lines`, since a number has neither a line nor a place.
 fn write_numbers(out: &mut [u8], numbers: &[u32]) -> usize
     requires { length (numbers_text numbers.now) ≤ length out.old }
     ensures { Puts (numbers_text numbers.now) out.old out.new result }

@@ -11,7 +11,7 @@ pub enum PrintRefusal {
 }
 
 impl PrintRefusal {
-    // The number of the question that got a no.
+    // The number of the question that got a no, for those who print it: code matches on the cases.
     pub fn number(self) -> u32
         ensures { result ≡ number_of self }
     {

@@ -1,8 +1,8 @@
 use Rattle.std.proofs.Common.{◌≡◌, ℕ, zero, suc, ◌+◌, ◌*◌, ◌<◌, Bool, true, eqb, List, [], ◌∷◌, ◌++◌, map, length, get_or, take, filter, refl, subst, arith}
-use Rattle.std.proofs.ByRecursion.{All-weaker}
+use Rattle.std.proofs.lemmas.List.Elements.{All-filter, filter_passes}
 use Rattle.std.proofs.lemmas.List.Sums.{sum_by-append, sum_by-cons, sum_by_push}
-use Rattle.std.proofs.lemmas.Bool.{cond_both, eqb-true}
-use Rattle.std.specs.List.{AllByRecursion}
+use Rattle.std.proofs.lemmas.Bool.{eqb-true}
+use Rattle.std.specs.List.{All}
 use Rattle.planning.specs.declared.job.Row.{Row}
 use Rattle.run.specs.declared.event.Event.{Event}
 use Rattle.run.specs.declared.event.Event.TheVariants.{FrameEnd}
@@ -14,28 +14,28 @@ AllFrom law e [] = Unit {0}
 AllFrom law e (x ∷ xs) = law e x × AllFrom law (e + end_of x) xs
 
 -- what passes a test keeps what each element keeps if it passes
-all_passing : {X : Type 0} (test : X → Bool) (P : X → Type 0) (xs : List X) → AllByRecursion (λ x. test x ≡ true → P x) xs → AllByRecursion P (filter test xs)
-all_passing test P [] each = tt
-all_passing test P (x ∷ xs) each =
-    cond_both (test x) (x ∷ filter test xs) (filter test xs) (AllByRecursion P)
-    (λ yes. (each.0 yes, all_passing test P xs each.1))
-    (λ no. all_passing test P xs each.1)
+all_passing : {X : Type 0} (test : X → Bool) (P : X → Type 0) (xs : List X) → All (λ x. test x ≡ true → P x) xs → All P (filter test xs)
+all_passing test P xs each k d inside = All-filter test (λ x. test x ≡ true → P x) xs each k d inside (filter_passes test xs k d inside)
 
-joined_ends : (q n : ℕ) (f : ℕ → List Event) → ((i : ℕ) → frame_ends (f i) ≡ q) → frame_ends (joined n f) ≡ n * q
+-- how many frames end in lists of events one after the other, in slices, in a frame, a repetition and a run
+pub joined_ends : (q n : ℕ) (f : ℕ → List Event) → ((i : ℕ) → frame_ends (f i) ≡ q) → frame_ends (joined n f) ≡ n * q
 joined_ends q zero f ends = omega arith
 joined_ends q (suc n) f ends = omega (arith, sum_by-append end_of (joined n f) (f n), joined_ends q n f ends, ends n)
 
-slices_end_none : (r : ℕ) (rows : List Row) → frame_ends (map (slice_of r) rows) ≡ 0
+pub slices_end_none : (r : ℕ) (rows : List Row) → frame_ends (map (slice_of r) rows) ≡ 0
 slices_end_none r [] = refl
 slices_end_none r (row ∷ rows) =
     omega (arith, sum_by-cons end_of (slice_of r row) (map (slice_of r) rows), slices_end_none r rows)
 
-frame_ends_once : (rows : List Row) (r g : ℕ) → frame_ends (frame_events rows r g) ≡ 1
+pub frame_ends_once : (rows : List Row) (r g : ℕ) → frame_ends (frame_events rows r g) ≡ 1
 frame_ends_once rows r g =
     omega (arith, sum_by_push end_of (map (slice_of r) (rows_in rows g)) (FrameEnd r g), slices_end_none r (rows_in rows g))
 
-repetition_ends : (rows : List Row) (frames r : ℕ) → frame_ends (repetition_events rows frames r) ≡ frames
+pub repetition_ends : (rows : List Row) (frames r : ℕ) → frame_ends (repetition_events rows frames r) ≡ frames
 repetition_ends rows frames r = omega (arith, joined_ends 1 frames (frame_events rows r) (frame_ends_once rows r))
+
+pub run_ends : (rows : List Row) (frames n : ℕ) → frame_ends (run_events rows frames n) ≡ n * frames
+run_ends rows frames n = joined_ends frames n (repetition_events rows frames) (repetition_ends rows frames)
 
 module _ (law : ℕ → Event → Type 0) where
   from_same : (a b : ℕ) (xs : List Event) → a ≡ b → AllFrom law a xs → AllFrom law b xs
@@ -72,19 +72,22 @@ module _ (law : ℕ → Event → Type 0) where
       from_append e (joined n f) (f n) (from_joined q e n f ends (λ i l. each i (omega arith)))
       (from_same (e + n * q) (e + frame_ends (joined n f)) (f n) (omega (arith, joined_ends q n f ends)) (each n (omega arith)))
 
-  from_slices : (e r : ℕ) (rows : List Row) → AllByRecursion (λ row. law e (slice_of r row)) rows → AllFrom law e (map (slice_of r) rows)
+  from_slices : (e r : ℕ) (rows : List Row) → All (λ row. law e (slice_of r row)) rows → AllFrom law e (map (slice_of r) rows)
   from_slices e r [] each = tt
-  from_slices e r (row ∷ rows) each =
-      (each.0, from_same e (e + end_of (slice_of r row)) (map (slice_of r) rows) (omega arith) (from_slices e r rows each.1))
+  from_slices e r (row ∷ rows) each = (
+    each 0 row (omega arith),
+    from_same e (e + end_of (slice_of r row)) (map (slice_of r) rows) (omega arith) (from_slices e r rows (λ k d inside. each (suc k) d (omega arith))),
+  )
 
-  module _ (at_ends : (e r g : ℕ) → law e (FrameEnd r g)) (rows : List Row) (frames : ℕ) (at_rows : (r : ℕ) → AllByRecursion (λ row. law (r * frames + row.frame) (slice_of r row)) rows) where
+  module _ (at_ends : (e r g : ℕ) → law e (FrameEnd r g)) (rows : List Row) (frames : ℕ) (at_rows : (r : ℕ) → All (λ row. law (r * frames + row.frame) (slice_of r row)) rows) where
     from_frame : (r g : ℕ) → AllFrom law (r * frames + g) (frame_events rows r g)
     from_frame r g =
-        let here : AllByRecursion (λ row. law (r * frames + g) (slice_of r row)) (rows_in rows g) =
+        let here : All (λ row. law (r * frames + g) (slice_of r row)) (rows_in rows g) =
         all_passing (λ row. eqb row.frame g) (λ row. law (r * frames + g) (slice_of r row)) rows
-        (All-weaker (λ row. law (r * frames + row.frame) (slice_of r row)) (λ row. eqb row.frame g ≡ true → law (r * frames + g) (slice_of r row)) (λ row holds yes.
+        (λ k d inside yes.
+        let row : Row = get_or rows k d in
         let same : r * frames + row.frame ≡ r * frames + g = omega (arith, eqb-true row.frame g yes) in
-        subst (λ a. law a (slice_of r row)) same holds) rows (at_rows r))
+        subst (λ a. law a (slice_of r row)) same (at_rows r k d inside))
         in
         from_append (r * frames + g) (map (slice_of r) (rows_in rows g)) (FrameEnd r g ∷ []) (from_slices (r * frames + g) r (rows_in rows g) here)
         (at_ends (r * frames + g + frame_ends (map (slice_of r) (rows_in rows g))) r g, tt)

@@ -1,13 +1,12 @@
-use Rattle.std.proofs.Common.{◌≡◌, ℕ, ◌+◌, ◌*◌, ◌/◌, ◌%◌, ◌<◌, ◌≤◌, cond, ◌&&◌, eqb, List, [], ◌∷◌, ◌++◌, length, get_or, take, sym, refl, ap, ◌∙◌, subst, ⊎_elim, mul-le-mul_right, div-add-mod', arith}
+use Rattle.std.proofs.Common.{◌≡◌, ℕ, ◌+◌, ◌*◌, ◌/◌, ◌%◌, ◌<◌, ◌≤◌, List, [], ◌∷◌, ◌++◌, length, get_or, take, sym, refl, ap, ◌∙◌, subst, mul-le-mul_right, div-add-mod', arith}
 use Rattle.std.proofs.lemmas.List.Sums.{sum_by-append, sum_by-cons}
-use Rattle.std.proofs.lemmas.Bool.{and_parts, cases_Bool, cond-false, eqb-true}
 use Rattle.books.specs.Meaning.{Meaning}
 use Rattle.planning.specs.declared.job.Job.{Job}
 use Rattle.planning.specs.declared.job.Row.{Row}
 use Rattle.planning.specs.Charges.{figures_at}
 use Rattle.planning.specs.Placing.{Fills, Finishes, Frames, Gifts, Jobs}
 use Rattle.planning.specs.Plans.{book_jobs}
-use Rattle.planning.specs.Rows.{GreedyRows}
+use Rattle.planning.specs.Rows.{GreedyRows, RowsOf}
 use Rattle.planning.specs.Sizes.{LargestSize, frames_of}
 use Rattle.planning.specs.Windows.{job_at, placed}
 use Rattle.planning.proofs.Equivalence.{placing_theorem}
@@ -21,7 +20,7 @@ use Rattle.run.specs.Kept.{ChosenFor, Delivers, InWindow, IsJob, window_in}
 use Rattle.run.proofs.AfterFrameEnds.{AllFrom, from_at, from_first, from_rest, from_run}
 use Rattle.run.proofs.FoundJobs.{job_found, one_position}
 use Rattle.run.proofs.RowsInWindows.{rows_in_windows}
-use Rattle.run.proofs.RunTotals.{run_total}
+use Rattle.run.proofs.RunTotals.{other_slice, run_total}
 
 -- frames of a size that divides the hyperperiod make it up
 frames_make_up : (h f : ℕ) → h % f ≡ 0 → h ≡ h / f * f
@@ -46,13 +45,7 @@ module _ (m : Meaning) (k : Standing) (period : ℕ → ℕ) (r t j ended : ℕ)
 
   event_too_late : (e : ℕ) (x : Event) → ended ≤ e → InWindow m k period e x → slice_for r t j x ≡ 0
   event_too_late e (Slice s g a b n) later (_, _, ends) =
-      ⊎_elim {C = cond ((eqb s r && eqb a t) && eqb b j) n 0 ≡ 0}
-      (λ yes.
-      let both = and_parts (eqb s r && eqb a t) (eqb b j) yes in
-      let first = and_parts (eqb s r) (eqb a t) both.0 in
-      absurd (too_late e later s a b (eqb-true s r first.0) (eqb-true a t first.1) (eqb-true b j both.1) ends))
-      (λ no. cond-false {A = ℕ} ((eqb s r && eqb a t) && eqb b j) n 0 no)
-      (cases_Bool ((eqb s r && eqb a t) && eqb b j))
+      other_slice r s a t b j n (λ same_repetition same_task same_job. too_late e later s a b same_repetition same_task same_job ends)
   event_too_late e (FrameEnd s g) later kept = refl
 
   -- so no later event counts for it
@@ -67,33 +60,33 @@ module _ (m : Meaning) (k : Standing) (period : ℕ → ℕ) (r t j ended : ℕ)
       )
 
 module _ (m : Meaning) (k : Standing) (period : ℕ → ℕ) (rows : List Row) (largest : LargestSize (placed (book_jobs m k.figures k.hyperperiod period)) k.hyperperiod k.size) (greedy : GreedyRows (book_jobs m k.figures k.hyperperiod period) (frames_of k.hyperperiod k.size) rows) where
+  -- the gifts of the table's rows finish every job and fill the table
+  gifts : (G : Gifts) × RowsOf (book_jobs m k.figures k.hyperperiod period) (frames_of k.hyperperiod k.size) G rows × Finishes (placed (book_jobs m k.figures k.hyperperiod period)) (frames_of k.hyperperiod k.size) G × Fills (placed (book_jobs m k.figures k.hyperperiod period)) (frames_of k.hyperperiod k.size) G
+  gifts =
+      let js : Jobs = placed (book_jobs m k.figures k.hyperperiod period) in
+      let fr : Frames = frames_of k.hyperperiod k.size in
+      let (G, is_greedy) = greedy_exists js fr in
+      let finishes : Finishes js fr G = (placing_theorem.finishing js fr).0 largest.fillable G is_greedy in
+      (G, greedy G is_greedy, finishes, placing_theorem.fills js fr G is_greedy finishes)
+
   -- each event of the run keeps to its window
   run_in_windows : (n : ℕ) → AllFrom (InWindow m k period) 0 (run_events rows (k.hyperperiod / k.size) n)
   run_in_windows n =
-      let js : Jobs = placed (book_jobs m k.figures k.hyperperiod period) in
-      let fr : Frames = frames_of k.hyperperiod k.size in
-      let found = greedy_exists js fr in
-      let G : Gifts = found.0 in
-      let finishes : Finishes js fr G = (placing_theorem.finishing js fr).0 largest.fillable G found.1 in
-      let fills : Fills js fr G = placing_theorem.fills js fr G found.1 finishes in
+      let (G, table, _, fills) = gifts in
       let whole : k.hyperperiod ≡ k.hyperperiod / k.size * k.size = frames_make_up k.hyperperiod k.size largest.permitted.divides in
-      from_run (InWindow m k period) (λ e r g. tt) rows (k.hyperperiod / k.size) (rows_in_windows m k period whole G fills rows (greedy G found.1)) n
+      from_run (InWindow m k period) (λ e r g. tt) rows (k.hyperperiod / k.size) (rows_in_windows m k period whole G fills rows table) n
 
   -- the slices of each job total its cost over the run
   run_total_cost : (n r t j : ℕ) → r < n → IsJob m k period t j → total r t j (run_events rows (k.hyperperiod / k.size) n) ≡ (figures_at k.figures t).cost
   run_total_cost n r t j low (task_low, few) =
+      let (G, table, finishes, _) = gifts in
       let jobs : List Job = book_jobs m k.figures k.hyperperiod period in
-      let js : Jobs = placed jobs in
-      let fr : Frames = frames_of k.hyperperiod k.size in
-      let found = greedy_exists js fr in
-      let G : Gifts = found.0 in
-      let finishes : Finishes js fr G = (placing_theorem.finishing js fr).0 largest.fillable G found.1 in
       let own = job_found k.hyperperiod period (figures_at k.figures) m.count t j task_low few in
       let i : ℕ = own.position in
       let task_is : (job_at jobs i).task ≡ t = ap (λ (x : Job). x.task) own.is in
       let job_is : (job_at jobs i).job ≡ j = ap (λ (x : Job). x.job) own.is in
       let cost_is : (job_at jobs i).cost ≡ (figures_at k.figures t).cost = ap (λ (x : Job). x.cost) own.is in
-      run_total jobs fr G rows (greedy G found.1) i t j own.inside task_is job_is
+      run_total jobs (frames_of k.hyperperiod k.size) G rows table i t j own.inside task_is job_is
       (λ a inside same_task same_job.
       one_position jobs (jobs_in_order k.hyperperiod period (figures_at k.figures) m.count) a i inside own.inside (same_task ∙ sym task_is) (same_job ∙ sym job_is))
       n r low

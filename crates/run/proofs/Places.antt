@@ -1,25 +1,27 @@
-use Rattle.std.proofs.Common.{◌≡◌, ℕ, zero, suc, ◌+◌, ◌*◌, ◌<◌, ◌≤◌, true, eqb, ltb, List, [], ◌∷◌, ◌++◌, map, length, get_or, Some, None, Option, sym, refl, ap, ◌∙◌, subst, ⊎_elim, suc-mul, zero-mul, add-one, arith}
+use Rattle.std.proofs.Common.{◌≡◌, ℕ, zero, suc, ◌+◌, ◌*◌, ◌<◌, ◌≤◌, eqb, ltb, List, [], ◌∷◌, ◌++◌, map, length, get_or, Some, None, Option, sym, refl, ap, ◌∙◌, subst, ⊎_elim, suc-mul, add-one, arith}
 use Rattle.std.proofs.lemmas.Nat.{mul-le}
-use Rattle.std.proofs.ByRecursion.{All-append, All-weaker, kept_by_passes}
-use Rattle.std.proofs.lemmas.List.{append_assoc, append-nil, get_or_at, length-append, length_push, map-append, map_push}
-use Rattle.std.proofs.lemmas.List.Sums.{sum_by-append, sum_by-cons, sum_by_push}
+use Rattle.std.proofs.lemmas.List.Elements.{All-append, All-nil, filter_passes}
+use Rattle.std.proofs.lemmas.List.{append_assoc, append-nil, get_or-append-add, get_or_at, length-append, length_push, map-append, map_push}
+use Rattle.std.proofs.lemmas.List.Sums.{sum_by-append}
 use Rattle.std.proofs.lemmas.Bool.{cases_lt, cond-false, cond-true, eq-eqb, eqb-true, le-ltb, lt-ltb, ne_eqb}
-use Rattle.std.specs.List.{AllByRecursion}
+use Rattle.std.specs.List.{All}
 use Rattle.planning.specs.declared.job.Row.{Row}
 use Rattle.planning.specs.Plans.{row_in}
 use Rattle.run.specs.declared.event.Event.{Event}
 use Rattle.run.specs.declared.event.Event.TheVariants.{FrameEnd}
+use Rattle.run.specs.declared.planner.place.Place.{Place}
 use Rattle.run.specs.Agrees.{AtPlace, of_frame, upcoming_in}
 use Rattle.run.specs.Events.{Begins, end_of, frame_ends, frame_events, joined, repetition_events, rows_in, run_events, slice_of}
+use Rattle.run.proofs.AfterFrameEnds.{frame_ends_once, joined_ends, run_ends, slices_end_none}
 
 joined_next : {X : Type 0} (n : ℕ) (f : ℕ → List X) → joined (n + 1) f ≡ joined n f ++ f n
 joined_next n f = ap (λ k. joined k f) (add-one n)
 
 -- what is joined, at one of its parts
-pub joined_at : {X : Type 0} (P : X → Type 0) (f : ℕ → List X) (g : ℕ) → ((h : ℕ) → g < h → AllByRecursion P (f h)) → (n : ℕ) → g < n → (later : List X) × (joined n f ≡ joined g f ++ (f g ++ later)) × AllByRecursion P later
+pub joined_at : {X : Type 0} (P : X → Type 0) (f : ℕ → List X) (g : ℕ) → ((h : ℕ) → g < h → All P (f h)) → (n : ℕ) → g < n → (later : List X) × (joined n f ≡ joined g f ++ (f g ++ later)) × All P later
 joined_at P f g holds zero below = absurd (omega arith)
 joined_at {X} P f g holds (suc n) below =
-    ⊎_elim {C = (later : List X) × (joined n f ++ f n ≡ joined g f ++ (f g ++ later)) × AllByRecursion P later}
+    ⊎_elim {C = (later : List X) × (joined n f ++ f n ≡ joined g f ++ (f g ++ later)) × All P later}
     (λ (before : g < n).
     let (later, same, all) = joined_at P f g holds n before in (
       later ++ f n,
@@ -30,7 +32,7 @@ joined_at {X} P f g holds (suc n) below =
     let same : n ≡ g = omega arith in (
       [],
       ap (λ k. joined k f ++ f k) same ∙ ap (λ l. joined g f ++ l) (sym (append-nil (f g))),
-      tt,
+      All-nil P,
     ))
     (cases_lt g n)
 
@@ -57,40 +59,21 @@ first [] = None
 first (x ∷ xs) = Some x
 
 -- what is upcoming is the first of what is left of the frame
-upcoming_first : (front left later : List Row) (g i : ℕ) → length front ≡ i → AllByRecursion (λ x. x.frame ≡ g) left → AllByRecursion (λ x. g < x.frame) later → upcoming_in (front ++ (left ++ later)) g i ≡ first left
+upcoming_first : (front left later : List Row) (g i : ℕ) → length front ≡ i → All (λ x. x.frame ≡ g) left → All (λ x. g < x.frame) later → upcoming_in (front ++ (left ++ later)) g i ≡ first left
 upcoming_first front [] [] g i long here after = ap (of_frame g) (row_past front i long)
-upcoming_first front [] (y ∷ later) g i long here after = ap (of_frame g) (row_at front y later i long) ∙ not_of_frame g y after.0
-upcoming_first front (x ∷ left) later g i long here after = ap (of_frame g) (row_at front x (left ++ later) i long) ∙ of_frame_lem g x here.0
+upcoming_first front [] (y ∷ later) g i long here after = ap (of_frame g) (row_at front y later i long) ∙ not_of_frame g y (after 0 y (omega arith))
+upcoming_first front (x ∷ left) later g i long here after = ap (of_frame g) (row_at front x (left ++ later) i long) ∙ of_frame_lem g x (here 0 x (omega arith))
 
-rows_here : (rows : List Row) (g : ℕ) → AllByRecursion (λ x. x.frame ≡ g) (rows_in rows g)
-rows_here rows g =
-    All-weaker (λ x. eqb x.frame g ≡ true) (λ x. x.frame ≡ g) (λ x same. eqb-true x.frame g same) (rows_in rows g) (kept_by_passes (λ row. eqb row.frame g) rows)
+rows_here : (rows : List Row) (g : ℕ) → All (λ x. x.frame ≡ g) (rows_in rows g)
+rows_here rows g k d inside =
+    eqb-true (get_or (rows_in rows g) k d).frame g (filter_passes (λ row. eqb row.frame g) rows k d inside)
 
-all_right : {X : Type 0} (P : X → Type 0) (xs ys : List X) → AllByRecursion P (xs ++ ys) → AllByRecursion P ys
-all_right P [] ys all = all
-all_right P (x ∷ xs) ys all = all_right P xs ys all.1
-
--- events of slices end no frame
-slices_end_none : (r : ℕ) (xs : List Row) → frame_ends (map (slice_of r) xs) ≡ 0
-slices_end_none r [] = refl
-slices_end_none r (x ∷ xs) = omega (arith, sum_by-cons end_of (slice_of r x) (map (slice_of r) xs), slices_end_none r xs)
-
-frame_ends_once : (rows : List Row) (r g : ℕ) → frame_ends (frame_events rows r g) ≡ 1
-frame_ends_once rows r g =
-    sum_by_push end_of (map (slice_of r) (rows_in rows g)) (FrameEnd r g) ∙ ap (λ n. n + 1) (slices_end_none r (rows_in rows g))
-
-ends_joined : (k : ℕ) (f : ℕ → List Event) → ((h : ℕ) → frame_ends (f h) ≡ k) → (n : ℕ) → frame_ends (joined n f) ≡ n * k
-ends_joined k f each zero = sym (zero-mul k)
-ends_joined k f each (suc n) = omega (arith, sum_by-append end_of (joined n f) (f n), ends_joined k f each n, each n, suc-mul n k)
+all_right : {X : Type 0} (P : X → Type 0) (xs ys : List X) → All P (xs ++ ys) → All P ys
+all_right P xs ys all k d inside =
+    subst P (get_or-append-add xs ys k d) (all (length xs + k) d (omega (arith, length-append xs ys)))
 
 module _ (rows : List Row) (F : ℕ) where
-  repetition_ends : (r : ℕ) → frame_ends (repetition_events rows F r) ≡ F
-  repetition_ends r = omega (arith, ends_joined 1 (frame_events rows r) (frame_ends_once rows r) F)
-
-  run_ends : (n : ℕ) → frame_ends (run_events rows F n) ≡ n * F
-  run_ends = ends_joined F (repetition_events rows F) repetition_ends
-
-  pub place_begins : 1 ≤ F → AtPlace rows F 0 0 0 []
+  pub place_begins : 1 ≤ F → AtPlace rows F (record { repetition = 0; frame = 0; row = 0 }) []
   place_begins some =
       record {
         done = [];
@@ -103,22 +86,22 @@ module _ (rows : List Row) (F : ℕ) where
         so_far = refl;
       }
 
-  pub place_upcoming : rows ≡ joined F (rows_in rows) → (r g i : ℕ) (events : List Event) (p : AtPlace rows F r g i events) → upcoming_in rows g i ≡ first p.left
-  place_upcoming in_order r g i events p =
-      let (later, same, after) = joined_at (λ (x : Row). g < x.frame) (rows_in rows) g (λ h above. All-weaker (λ (x : Row). x.frame ≡ h) (λ (x : Row). g < x.frame) (λ x (at_h : x.frame ≡ h). omega arith) (rows_in rows h) (rows_here rows h)) F p.inside in
-      let front : List Row = joined g (rows_in rows) ++ p.done in
+  pub place_upcoming : rows ≡ joined F (rows_in rows) → (at : Place) (events : List Event) (p : AtPlace rows F at events) → upcoming_in rows at.frame at.row ≡ first p.left
+  place_upcoming in_order at events p =
+      let (later, same, after) = joined_at (λ (x : Row). at.frame < x.frame) (rows_in rows) at.frame (λ h above k d inside. omega (arith, rows_here rows h k d inside)) F p.inside in
+      let front : List Row = joined at.frame (rows_in rows) ++ p.done in
       let whole : rows ≡ front ++ (p.left ++ later) =
-      in_order ∙ (same ∙ (ap (λ l. joined g (rows_in rows) ++ (l ++ later)) p.split ∙ simp append_assoc))
+      in_order ∙ (same ∙ (ap (λ l. joined at.frame (rows_in rows) ++ (l ++ later)) p.split ∙ simp append_assoc))
       in
-      let long : length front ≡ i = omega (arith, length-append (joined g (rows_in rows)) p.done, p.placed) in
-      let here : AllByRecursion (λ x. x.frame ≡ g) p.left =
-      all_right (λ x. x.frame ≡ g) p.done p.left (subst (AllByRecursion (λ x. x.frame ≡ g)) p.split (rows_here rows g))
+      let long : length front ≡ at.row = omega (arith, length-append (joined at.frame (rows_in rows)) p.done, p.placed) in
+      let here : All (λ x. x.frame ≡ at.frame) p.left =
+      all_right (λ x. x.frame ≡ at.frame) p.done p.left (subst (All (λ x. x.frame ≡ at.frame)) p.split (rows_here rows at.frame))
       in
-      ap (λ l. upcoming_in l g i) whole ∙ upcoming_first front p.left later g i long here after
+      ap (λ l. upcoming_in l at.frame at.row) whole ∙ upcoming_first front p.left later at.frame at.row long here after
 
-  pub place_slice : rows ≡ joined F (rows_in rows) → (r g i : ℕ) (events : List Event) → AtPlace rows F r g i events → r < 1000000 → (x : Row) → upcoming_in rows g i ≡ Some x → AtPlace rows F r g (i + 1) (events ++ slice_of r x ∷ [])
-  place_slice in_order r g i events p going x next =
-      let (rest, is) = left_is p.left (sym (place_upcoming in_order r g i events p) ∙ next) in
+  pub place_slice : rows ≡ joined F (rows_in rows) → (at : Place) (events : List Event) → AtPlace rows F at events → at.repetition < 1000000 → (x : Row) → upcoming_in rows at.frame at.row ≡ Some x → AtPlace rows F (record { repetition = at.repetition; frame = at.frame; row = at.row + 1 }) (events ++ slice_of at.repetition x ∷ [])
+  place_slice in_order at events p going x next =
+      let (rest, is) = left_is p.left (sym (place_upcoming in_order at events p) ∙ next) in
       record {
         done = p.done ++ x ∷ [];
         left = rest;
@@ -128,10 +111,10 @@ module _ (rows : List Row) (F : ℕ) where
         split = p.split ∙ (ap (λ l. p.done ++ l) is ∙ sym (append_assoc p.done (x ∷ []) rest));
         placed = omega (arith, p.placed, length_push p.done x);
         so_far =
-            ap (λ l. l ++ slice_of r x ∷ []) p.so_far
-            ∙ (append_assoc (run_events rows F r) (joined g (frame_events rows r) ++ map (slice_of r) p.done) (slice_of r x ∷ [])
-            ∙ ap (λ l. run_events rows F r ++ l) (append_assoc (joined g (frame_events rows r)) (map (slice_of r) p.done) (slice_of r x ∷ [])
-            ∙ ap (λ l. joined g (frame_events rows r) ++ l) (sym (map_push (slice_of r) p.done x))));
+            ap (λ l. l ++ slice_of at.repetition x ∷ []) p.so_far
+            ∙ (append_assoc (run_events rows F at.repetition) (joined at.frame (frame_events rows at.repetition) ++ map (slice_of at.repetition) p.done) (slice_of at.repetition x ∷ [])
+            ∙ ap (λ l. run_events rows F at.repetition ++ l) (append_assoc (joined at.frame (frame_events rows at.repetition)) (map (slice_of at.repetition) p.done) (slice_of at.repetition x ∷ [])
+            ∙ ap (λ l. joined at.frame (frame_events rows at.repetition) ++ l) (sym (map_push (slice_of at.repetition) p.done x))));
       }
     where
       left_is : (left : List Row) → first left ≡ Some x → (rest : List Row) × (left ≡ x ∷ rest)
@@ -147,25 +130,25 @@ module _ (rows : List Row) (F : ℕ) where
       ∙ (ap (λ l. joined g (frame_events rows r) ++ (map (slice_of r) l ++ FrameEnd r g ∷ [])) (sym all)
       ∙ sym (joined_next g (frame_events rows r)))))
 
-  pub place_frame_end : rows ≡ joined F (rows_in rows) → (r g i : ℕ) (events : List Event) → AtPlace rows F r g i events → r < 1000000 → upcoming_in rows g i ≡ None → (g + 1 < F → AtPlace rows F r (g + 1) i (events ++ FrameEnd r g ∷ [])) × (g + 1 ≡ F → AtPlace rows F (r + 1) 0 0 (events ++ FrameEnd r g ∷ []))
-  place_frame_end in_order r g i events p going none =
-      let is : p.left ≡ [] = left_is p.left (sym (place_upcoming in_order r g i events p) ∙ none) in
-      let all : rows_in rows g ≡ p.done = p.split ∙ (ap (λ l. p.done ++ l) is ∙ append-nil p.done) in
-      let over : events ++ FrameEnd r g ∷ [] ≡ run_events rows F r ++ joined (g + 1) (frame_events rows r) = frame_over r g events p.done all p.so_far in (
+  pub place_frame_end : rows ≡ joined F (rows_in rows) → (at : Place) (events : List Event) → AtPlace rows F at events → at.repetition < 1000000 → upcoming_in rows at.frame at.row ≡ None → (at.frame + 1 < F → AtPlace rows F (record { repetition = at.repetition; frame = at.frame + 1; row = at.row }) (events ++ FrameEnd at.repetition at.frame ∷ [])) × (at.frame + 1 ≡ F → AtPlace rows F (record { repetition = at.repetition + 1; frame = 0; row = 0 }) (events ++ FrameEnd at.repetition at.frame ∷ []))
+  place_frame_end in_order at events p going none =
+      let is : p.left ≡ [] = left_is p.left (sym (place_upcoming in_order at events p) ∙ none) in
+      let all : rows_in rows at.frame ≡ p.done = p.split ∙ (ap (λ l. p.done ++ l) is ∙ append-nil p.done) in
+      let over : events ++ FrameEnd at.repetition at.frame ∷ [] ≡ run_events rows F at.repetition ++ joined (at.frame + 1) (frame_events rows at.repetition) = frame_over at.repetition at.frame events p.done all p.so_far in (
         λ more.
             record {
               done = [];
-              left = rows_in rows (g + 1);
+              left = rows_in rows (at.frame + 1);
               counted = p.counted;
               ended = λ over. absurd (omega arith);
               inside = more;
               split = refl;
               placed =
-                  let longer : length (joined (g + 1) (rows_in rows)) ≡ length (joined g (rows_in rows)) + length p.done =
-                  ap length (joined_next g (rows_in rows)) ∙ (length-append (joined g (rows_in rows)) (rows_in rows g) ∙ ap (λ l. length (joined g (rows_in rows)) + length l) all)
+                  let longer : length (joined (at.frame + 1) (rows_in rows)) ≡ length (joined at.frame (rows_in rows)) + length p.done =
+                  ap length (joined_next at.frame (rows_in rows)) ∙ (length-append (joined at.frame (rows_in rows)) (rows_in rows at.frame) ∙ ap (λ l. length (joined at.frame (rows_in rows)) + length l) all)
                   in
                   omega (arith, p.placed);
-              so_far = over ∙ ap (λ l. run_events rows F r ++ l) (sym (append-nil (joined (g + 1) (frame_events rows r))));
+              so_far = over ∙ ap (λ l. run_events rows F at.repetition ++ l) (sym (append-nil (joined (at.frame + 1) (frame_events rows at.repetition))));
             },
         λ last.
             record {
@@ -178,8 +161,8 @@ module _ (rows : List Row) (F : ℕ) where
               placed = refl;
               so_far =
                   over
-                  ∙ (ap (λ n. run_events rows F r ++ joined n (frame_events rows r)) last
-                  ∙ (sym (joined_next r (repetition_events rows F)) ∙ sym (append-nil (run_events rows F (r + 1)))));
+                  ∙ (ap (λ n. run_events rows F at.repetition ++ joined n (frame_events rows at.repetition)) last
+                  ∙ (sym (joined_next at.repetition (repetition_events rows F)) ∙ sym (append-nil (run_events rows F (at.repetition + 1)))));
             },
       )
     where
@@ -190,8 +173,8 @@ module _ (rows : List Row) (F : ℕ) where
   -- a beginning of the events of any number of repetitions, while the run is in one of them
   inside_begins : (n r g : ℕ) (events : List Event) (done left : List Row) → r < n → g < F → rows_in rows g ≡ done ++ left → events ≡ run_events rows F r ++ (joined g (frame_events rows r) ++ map (slice_of r) done) → Begins events (run_events rows F n)
   inside_begins n r g events done left going inside split so_far =
-      let (after, whole, _) = joined_at (λ (e : Event). Unit {0}) (repetition_events rows F) r (λ h _. all_unit (repetition_events rows F h)) n going in
-      let (later, one, _) = joined_at (λ (e : Event). Unit {0}) (frame_events rows r) g (λ h _. all_unit (frame_events rows r h)) F inside in
+      let (after, whole, _) = joined_at (λ (e : Event). Unit {0}) (repetition_events rows F) r (λ h _ k d inside. tt) n going in
+      let (later, one, _) = joined_at (λ (e : Event). Unit {0}) (frame_events rows r) g (λ h _ k d inside. tt) F inside in
       let rest : List Event = map (slice_of r) left ++ (FrameEnd r g ∷ (later ++ after)) in
       let a : run_events rows F n ≡ run_events rows F r ++ ((joined g (frame_events rows r) ++ ((map (slice_of r) (done ++ left) ++ FrameEnd r g ∷ []) ++ later)) ++ after) =
       whole
@@ -203,10 +186,6 @@ module _ (rows : List Row) (F : ℕ) where
       in
       (rest, b ∙ sym a)
     where
-      all_unit : (es : List Event) → AllByRecursion (λ e. Unit {0}) es
-      all_unit [] = tt
-      all_unit (e ∷ es) = (tt, all_unit es)
-
       regroup : (a b c d e f cd : List Event) (x : Event) → cd ≡ c ++ d → (a ++ (b ++ c)) ++ (d ++ (x ∷ (e ++ f))) ≡ a ++ ((b ++ ((cd ++ x ∷ []) ++ e)) ++ f)
       regroup a b c d e f cd x same = simp append_assoc (ap (λ l. a ++ (b ++ l)) (sym (append_assoc c d (x ∷ (e ++ f))) ∙ ap (λ l. l ++ (x ∷ (e ++ f))) (sym same)))
 
@@ -226,30 +205,30 @@ module _ (rows : List Row) (F : ℕ) where
       ))
       (cases_lt r n)
 
-  pub place_beginning : (r g i : ℕ) (events : List Event) → AtPlace rows F r g i events → Begins events (run_events rows F 1000000)
-  place_beginning r g i events p = at_begins 1000000 r g events p.done p.left p.counted p.ended p.inside p.split p.so_far
+  pub place_beginning : (at : Place) (events : List Event) → AtPlace rows F at events → Begins events (run_events rows F 1000000)
+  place_beginning at events p = at_begins 1000000 at.repetition at.frame events p.done p.left p.counted p.ended p.inside p.split p.so_far
 
-  pub place_ends : (r g i : ℕ) (events : List Event) → AtPlace rows F r g i events → frame_ends events ≡ r * F + g
-  place_ends r g i events p =
-      let whole : frame_ends events ≡ frame_ends (run_events rows F r ++ (joined g (frame_events rows r) ++ map (slice_of r) p.done)) = ap frame_ends p.so_far in
+  pub place_ends : (at : Place) (events : List Event) → AtPlace rows F at events → frame_ends events ≡ at.repetition * F + at.frame
+  place_ends at events p =
+      let whole : frame_ends events ≡ frame_ends (run_events rows F at.repetition ++ (joined at.frame (frame_events rows at.repetition) ++ map (slice_of at.repetition) p.done)) = ap frame_ends p.so_far in
       omega (
         arith,
-        sum_by-append end_of (run_events rows F r) (joined g (frame_events rows r) ++ map (slice_of r) p.done),
-        sum_by-append end_of (joined g (frame_events rows r)) (map (slice_of r) p.done),
-        run_ends r,
-        ends_joined 1 (frame_events rows r) (frame_ends_once rows r) g,
-        slices_end_none r p.done,
+        sum_by-append end_of (run_events rows F at.repetition) (joined at.frame (frame_events rows at.repetition) ++ map (slice_of at.repetition) p.done),
+        sum_by-append end_of (joined at.frame (frame_events rows at.repetition)) (map (slice_of at.repetition) p.done),
+        run_ends rows F at.repetition,
+        joined_ends 1 at.frame (frame_events rows at.repetition) (frame_ends_once rows at.repetition),
+        slices_end_none at.repetition p.done,
       )
 
   below_all : (n r g : ℕ) → r < n → g < F → r * F + g < n * F
   below_all n r g going inside = omega (arith, mul-le (suc r) F n F going (omega arith), suc-mul r F)
 
-  pub place_not_ended : (r g i : ℕ) (events : List Event) → AtPlace rows F r g i events → r < 1000000 → frame_ends events < 1000000 * F
-  place_not_ended r g i events p going = subst (λ k. k < 1000000 * F) (sym (place_ends r g i events p)) (below_all 1000000 r g going p.inside)
+  pub place_not_ended : (at : Place) (events : List Event) → AtPlace rows F at events → at.repetition < 1000000 → frame_ends events < 1000000 * F
+  place_not_ended at events p going = subst (λ k. k < 1000000 * F) (sym (place_ends at events p)) (below_all 1000000 at.repetition at.frame going p.inside)
 
-  pub place_ended : (r g i : ℕ) (events : List Event) → AtPlace rows F r g i events → 1000000 ≤ r → frame_ends events ≡ 1000000 * F
-  place_ended r g i events p over =
-      let counted : r ≤ 1000000 = p.counted in
-      let same : r ≡ 1000000 = omega arith in
-      let whole : r * F ≡ 1000000 * F = ap (λ k. k * F) same in
-      omega (arith, place_ends r g i events p, (p.ended same).0)
+  pub place_ended : (at : Place) (events : List Event) → AtPlace rows F at events → 1000000 ≤ at.repetition → frame_ends events ≡ 1000000 * F
+  place_ended at events p over =
+      let counted : at.repetition ≤ 1000000 = p.counted in
+      let same : at.repetition ≡ 1000000 = omega arith in
+      let whole : at.repetition * F ≡ 1000000 * F = ap (λ k. k * F) same in
+      omega (arith, place_ends at events p, (p.ended same).0)

@@ -1,7 +1,7 @@
 use Rattle.std.proofs.Common.{◌≡◌, ℕ, ◌+◌, ◌*◌, ◌/◌, ◌<◌, ◌≤◌, leb, List, sym, ap, subst, arith}
-use Rattle.std.proofs.ByRecursion.{All-map, All-weaker}
+use Rattle.std.proofs.lemmas.List.Elements.{All-map, All-weaker}
 use Rattle.std.proofs.lemmas.Bool.{and_parts, leb-true}
-use Rattle.std.specs.List.{AllByRecursion}
+use Rattle.std.specs.List.{All}
 use Rattle.books.specs.Meaning.{Meaning}
 use Rattle.planning.specs.declared.job.Job.{Job}
 use Rattle.planning.specs.declared.job.Row.{Row}
@@ -44,10 +44,11 @@ module _ (m : Meaning) (k : Standing) (period : ℕ → ℕ) (whole : k.hyperper
       (leb-true ((g + 1) * k.size) window.end fits.1)
 
   -- each row keeps to its job's window in every repetition
-  pub rows_in_windows : (rows : List Row) → RowsOf (book_jobs m k.figures k.hyperperiod period) (frames_of k.hyperperiod k.size) G rows → (r : ℕ) → AllByRecursion (λ row. InWindow m k period (r * (k.hyperperiod / k.size) + row.frame) (slice_of r row)) rows
+  pub rows_in_windows : (rows : List Row) → RowsOf (book_jobs m k.figures k.hyperperiod period) (frames_of k.hyperperiod k.size) G rows → (r : ℕ) → All (λ row. InWindow m k period (r * (k.hyperperiod / k.size) + row.frame) (slice_of r row)) rows
   rows_in_windows rows table r =
       let jobs : List Job = book_jobs m k.figures k.hyperperiod period in
       let Held : Row → Type 0 = λ row. InWindow m k period (r * (k.hyperperiod / k.size) + row.frame) (slice_of r row) in
-      subst (AllByRecursion Held) (sym table.written)
+      let Gift : Place → Type 0 = IsGift (placed jobs) (frames_of k.hyperperiod k.size) G in
+      subst (All Held) (sym table.written)
       (All-map Held (row_of jobs G) table.places
-      (All-weaker (IsGift (placed jobs) (frames_of k.hyperperiod k.size) G) (λ p. Held (row_of jobs G p)) (row_in_window r) table.places table.gifts))
+      (All-weaker Gift (λ p. Held (row_of jobs G p)) (row_in_window r) table.places table.gifts))

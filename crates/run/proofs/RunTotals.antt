@@ -1,16 +1,14 @@
-use Rattle.std.proofs.Common.{◌≡◌, ℕ, ◌+◌, ◌<◌, ◌≤◌, true, cond, ◌&&◌, eqb, List, [], ◌∷◌, map, length, sum_by, sym, refl, ap, ◌∙◌, ⊎_elim, arith}
-use Rattle.std.proofs.ByRecursion.{all_has_itself, All-weaker}
+use Rattle.std.proofs.Common.{◌≡◌, ℕ, zero, suc, ◌<◌, ◌≤◌, true, cond, ◌&&◌, eqb, List, [], ◌∷◌, map, length, get_or, sum_by, sym, refl, ap, ◌∙◌, subst, ⊎_elim, arith}
 use Rattle.std.proofs.lemmas.List.Sums.{sum_by-cons, sum_by_push}
 use Rattle.std.proofs.lemmas.Bool.{cases_eq, cases_lt}
 use Rattle.std.proofs.lemmas.Bool.Decides.{nat_tests}
-use Rattle.std.specs.List.{ContainsAt as Has}
+use Rattle.std.specs.List.{Contains}
 use Rattle.planning.specs.declared.job.Job.{Job}
 use Rattle.planning.specs.declared.job.Row.{Row}
 use Rattle.planning.specs.Placing.{Frames, Gifts, Jobs, Sum}
 use Rattle.planning.specs.Rows.{IsGift, Place, Rising, RowsOf, is_earlier, row_of}
 use Rattle.planning.specs.Windows.{job_at, placed}
-use Rattle.planning.proofs.Membership.{has_cons_cases}
-use Rattle.planning.proofs.OneTable.{rising_head, rising_tail}
+use Rattle.planning.proofs.OneTable.{rising_tail}
 use Rattle.planning.proofs.Sums.{only, only_elsewhere, only_here, sum_of_only, sum_same, sum_unchanged}
 use Rattle.run.specs.declared.event.Event.TheVariants.{FrameEnd}
 use Rattle.run.specs.Events.{frame_events, repetition_events, rows_in, run_events, slice_for, slice_of, total}
@@ -33,35 +31,32 @@ module _ (js : Jobs) where
       let same_end : js.end p.position ≡ js.end q.position = ap js.end position in grind (arith, nat_tests)
 
   -- a place stands once among places that rise
-  stands_once : (places : List Place) (q : Place) (x : ℕ) → Rising js places → Has places q → sum_by (mark_at q.frame q.position x) places ≡ x
-  stands_once [] q x rising has = absurd (omega (arith, has.1))
-  stands_once (p ∷ ps) q x rising has =
-      let parts : sum_by (mark_at q.frame q.position x) (p ∷ ps) ≡ mark_at q.frame q.position x p + sum_by (mark_at q.frame q.position x) ps =
-      sum_by-cons (mark_at q.frame q.position x) p ps
-      in
-      ⊎_elim {C = sum_by (mark_at q.frame q.position x) (p ∷ ps) ≡ x}
-      (λ first.
-      let frame : p.frame ≡ q.frame = ap (λ (y : Place). y.frame) first in
-      let position : p.position ≡ q.position = ap (λ (y : Place). y.position) first in
+  stands_once : (places : List Place) (q : Place) (x : ℕ) → Rising js places → Contains places q → sum_by (mark_at q.frame q.position x) places ≡ x
+  stands_once [] q x rising (k, inside, is) = absurd (omega (arith, inside))
+  stands_once (p ∷ ps) q x rising (zero, _, is) =
+      let frame : p.frame ≡ q.frame = ap (λ (y : Place). y.frame) is in
+      let position : p.position ≡ q.position = ap (λ (y : Place). y.position) is in
       let none : sum_by (mark_at q.frame q.position x) ps ≡ 0 =
-      sum_of_none (mark_at q.frame q.position x) ps
-      (All-weaker (Has ps) (λ y. mark_at q.frame q.position x y ≡ 0) (λ y later.
-      mark_elsewhere q.frame q.position x y (λ f n. earlier_is_other p y (rising_head js p ps y rising later) (frame ∙ sym f) (position ∙ sym n))) ps (all_has_itself ps))
+      sum_of_none (mark_at q.frame q.position x) ps (λ k d inside.
+      mark_elsewhere q.frame q.position x (get_or ps k d) (λ f n.
+      earlier_is_other p (get_or ps k d) (rising 0 (suc k) d (omega arith) (omega arith)) (frame ∙ sym f) (position ∙ sym n)))
       in
-      omega (arith, mark_here q.frame q.position x p frame position))
-      (λ later.
+      omega (arith, sum_by-cons (mark_at q.frame q.position x) p ps, mark_here q.frame q.position x p frame position)
+  stands_once (p ∷ ps) q x rising (suc k, inside, is) =
+      let before : is_earlier js p q ≡ true = subst (λ y. is_earlier js p y ≡ true) is (rising 0 (suc k) q (omega arith) inside) in
       omega (
         arith,
-        mark_elsewhere q.frame q.position x p (earlier_is_other p q (rising_head js p ps q rising later)),
-        stands_once ps q x (rising_tail js p ps rising) later,
-      ))
-      (has_cons_cases p ps q has)
+        sum_by-cons (mark_at q.frame q.position x) p ps,
+        mark_elsewhere q.frame q.position x p (earlier_is_other p q before),
+        stands_once ps q x (rising_tail js p ps rising) (k, omega (arith, inside), is),
+      )
 
 -- the term of a row, by whether it is the place of a gift to the job
 slice_or_none : (r frame g position i task t job j x y : ℕ) → (position ≡ i → task ≡ t) → (position ≡ i → job ≡ j) → (task ≡ t → job ≡ j → position ≡ i) → (frame ≡ g → position ≡ i → x ≡ y) → cond (eqb frame g) (cond ((eqb r r && eqb task t) && eqb job j) x 0) 0 ≡ cond (eqb frame g && eqb position i) y 0
 slice_or_none r frame g position i task t job j x y task_is job_is alone gift = grind (arith, nat_tests)
 
-other_slice : (r s task t job j x : ℕ) → (s ≡ r → ⊥) → cond ((eqb s r && eqb task t) && eqb job j) x 0 ≡ 0
+-- a slice of another repetition, task or job counts nothing
+pub other_slice : (r s task t job j x : ℕ) → (s ≡ r → task ≡ t → job ≡ j → ⊥) → cond ((eqb s r && eqb task t) && eqb job j) x 0 ≡ 0
 other_slice r s task t job j x apart = grind (arith, nat_tests)
 
 -- slices of other repetitions count nothing
@@ -71,7 +66,7 @@ other_slices r t j s apart (row ∷ rows) =
     omega (
       arith,
       sum_by-cons (slice_for r t j) (slice_of s row) (map (slice_of s) rows),
-      other_slice r s row.task t row.job j row.length apart,
+      other_slice r s row.task t row.job j row.length (λ same _ _. apart same),
       other_slices r t j s apart rows,
     )
 
@@ -95,8 +90,7 @@ module _ (jobs : List Job) (fr : Frames) (G : Gifts) (rows : List Row) (table : 
       (table.all (record { frame = g; position = i }) (low, inside, some)))
       (λ (none : G g i ≤ 0).
       let zero_gift : G g i ≡ 0 = omega arith in
-      sum_of_none (mark_at g i (G g i)) table.places
-      (All-weaker (Has table.places) (λ p. mark_at g i (G g i) p ≡ 0) (λ p _. grind (arith, nat_tests)) table.places (all_has_itself table.places))
+      sum_of_none (mark_at g i (G g i)) table.places (λ k d _. grind (arith, nat_tests))
       ∙ sym zero_gift)
       (cases_lt 0 (G g i))
 
@@ -120,7 +114,7 @@ module _ (jobs : List Job) (fr : Frames) (G : Gifts) (rows : List Row) (table : 
       ∙ ap (sum_by (λ (row : Row). cond (eqb row.frame g) (slice_for r t j (slice_of r row)) 0)) table.written
       ∙ sum_of_mapped (λ (row : Row). cond (eqb row.frame g) (slice_for r t j (slice_of r row)) 0) (row_of jobs G) table.places
       ∙ sum_of_same (λ p. cond (eqb p.frame g) (slice_for r t j (slice_of r (row_of jobs G p))) 0) (mark_at g i (G g i)) table.places
-      (All-weaker (IsGift (placed jobs) fr G) (λ p. cond (eqb p.frame g) (slice_for r t j (slice_of r (row_of jobs G p))) 0 ≡ mark_at g i (G g i) p) (slice_of_place r g) table.places table.gifts)
+      (λ k d inside. slice_of_place r g (get_or table.places k d) (table.gifts k d inside))
       ∙ gift_of_places g low
 
   repetition_total : (r : ℕ) → total r t j (repetition_events rows fr.count r) ≡ Sum fr.count (λ g. G g i)

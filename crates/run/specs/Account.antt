@@ -26,7 +26,7 @@ empty = record { figures = replicate 16 None; plan = None; events = [] }
 -- A call is granted when its answer is no refusal.
 abbrev pub is_granted : Answer → Bool
 is_granted Charged = true
-is_granted (Planned h f jobs rows) = true
+is_granted (Planned granted) = true
 is_granted Rewound = true
 is_granted (Came event) = true
 is_granted (PeriodIs period) = true
@@ -36,7 +36,7 @@ is_granted (Refused refusal) = false
 -- What is kept of a granted plan, with the figures noted at that time.
 abbrev pub kept_in : List (Option Figures) → Answer → Option Standing
 kept_in figures Charged = None
-kept_in figures (Planned h f jobs rows) = Some (record { hyperperiod = h; size = f; figures = figures })
+kept_in figures (Planned granted) = Some (record { hyperperiod = granted.hyperperiod; size = granted.frame_size; figures = figures })
 kept_in figures Rewound = None
 kept_in figures (Came event) = None
 kept_in figures (PeriodIs period) = None
@@ -46,7 +46,7 @@ kept_in figures (Refused refusal) = None
 -- The event that an answer brings, if any.
 abbrev pub events_in : Answer → List Event
 events_in Charged = []
-events_in (Planned h f jobs rows) = []
+events_in (Planned granted) = []
 events_in Rewound = []
 events_in (Came event) = event ∷ []
 events_in (PeriodIs period) = []

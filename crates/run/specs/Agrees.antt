@@ -7,9 +7,9 @@ use Rattle.run.specs.declared.call.Answer.{Answer}
 use Rattle.run.specs.declared.call.Answer.TheVariants.{Charged, Planned, Rewound, Came, PeriodIs, RowIs, Refused}
 use Rattle.run.specs.declared.call.Call.{Call}
 use Rattle.run.specs.declared.event.Event.{Event}
-use Rattle.run.specs.declared.event.Event.TheVariants.{FrameEnd}
 use Rattle.run.specs.declared.planner.Planner.{Planner}
 use Rattle.run.specs.declared.planner.calls.Granted.{Granted}
+use Rattle.run.specs.declared.planner.place.Place.{Place}
 use Rattle.run.specs.declared.refusal.Refusal.{Refusal}
 use Rattle.run.specs.Account.{Account, Standing, hear, is_granted}
 use Rattle.run.specs.Events.{frame_events, joined, rows_in, run_events, slice_of}
@@ -22,7 +22,7 @@ charged (Ok done) = Charged
 charged (Err refusal) = Refused refusal
 
 abbrev pub planned : Result Granted Refusal → Answer
-planned (Ok g) = Planned g.hyperperiod g.frame_size g.jobs g.rows
+planned (Ok granted) = Planned granted
 planned (Err refusal) = Refused refusal
 
 abbrev pub rewound : Result (Unit {0}) Refusal → Answer
@@ -47,60 +47,52 @@ of_frame frame (Some row) = cond (row.frame == frame) (Some row) None
 abbrev pub upcoming_in : List Row → ℕ → ℕ → Option Row
 upcoming_in rows frame index = of_frame frame (row_in rows index)
 
--- Where a run is, after these events: in this repetition and frame, of whose rows some are done and some are
--- left, with the row at that place of the table next.
-pub record AtPlace (rows : List Row) (frames repetition frame index : ℕ) (events : List Event) : Type 0 where
+-- A run is at this place after these events: in its repetition and frame, of whose rows some are done and some are
+-- left, with the row of that index of the table next.
+pub record AtPlace (rows : List Row) (frames : ℕ) (place : Place) (events : List Event) : Type 0 where
   pub done : List Row
   pub left : List Row
-  pub counted : repetition ≤ 1000000
-  pub ended : repetition ≡ 1000000 → (frame ≡ 0) × (done ≡ [])
-  pub inside : frame < frames
-  pub split : rows_in rows frame ≡ done ++ left
-  pub placed : index ≡ length (joined frame (rows_in rows)) + length done
-  pub so_far : events ≡ run_events rows frames repetition ++ (joined frame (frame_events rows repetition) ++ map (slice_of repetition) done)
+  pub counted : place.repetition ≤ 1000000
+  pub ended : place.repetition ≡ 1000000 → (place.frame ≡ 0) × (done ≡ [])
+  pub inside : place.frame < frames
+  pub split : rows_in rows place.frame ≡ done ++ left
+  pub placed : place.row ≡ length (joined place.frame (rows_in rows)) + length done
+  pub so_far : events ≡ run_events rows frames place.repetition ++ (joined place.frame (frame_events rows place.repetition) ++ map (slice_of place.repetition) done)
 
--- A frame of the planner ended, and with the last frame the repetition.
-pub record Ends {B : Type 0} (p q : Planner B) (ending : Event) : Type 0 where
-  pub event : ending ≡ FrameEnd p.repetition p.frame
-  pub book : q.book ≡ p.book
-  pub figures : q.figures ≡ p.figures
-  pub stands : q.stands ≡ p.stands
-  pub plan : q.plan ≡ p.plan
-  pub on : min (p.frame + 1) 4294967295 < p.plan.frames → (q.frame ≡ min (p.frame + 1) 4294967295) × (q.row ≡ p.row) × (q.repetition ≡ p.repetition)
-  pub over : p.plan.frames ≤ min (p.frame + 1) 4294967295 → (q.frame ≡ 0) × (q.row ≡ 0) × (q.repetition ≡ p.repetition + 1)
+-- A frame of a run ended, and with the last of the frames the repetition.
+pub record Ends (frames : ℕ) (p q : Place) : Type 0 where
+  pub on : min (p.frame + 1) 4294967295 < frames → q ≡ record { repetition = p.repetition; frame = min (p.frame + 1) 4294967295; row = p.row }
+  pub over : frames ≤ min (p.frame + 1) 4294967295 → q ≡ record { repetition = p.repetition + 1; frame = 0; row = 0 }
+
+-- The plan is the one that is kept: due by the figures kept, with the hyperperiod and the size kept.
+abbrev pub KeptPlan : Meaning → Standing → Plan → Type 0
+KeptPlan m k plan =
+    (k.hyperperiod ≡ plan.hyperperiod) × (k.size ≡ plan.frame_size) × ((ceiling : ℕ) × PlanMade m k.figures ceiling plan)
 
 -- The plan is the one that the account keeps, if it keeps one, and the run is where the events have come to.
-abbrev pub StandsAs : Meaning → Bool → Plan → ℕ → ℕ → ℕ → Option Standing → List Event → Type 0
-StandsAs m stands plan repetition frame row None events = stands ≡ false
-StandsAs m stands plan repetition frame row (Some k) events =
-    (stands ≡ true)
-    × (k.hyperperiod ≡ plan.hyperperiod)
-    × (k.size ≡ plan.frame_size)
-    × ((ceiling : ℕ) × PlanMade m k.figures ceiling plan)
-    × AtPlace (vec_items plan.rows) plan.frames repetition frame row events
+abbrev pub StandsAs : Meaning → Plan → Option Place → Option Standing → List Event → Type 0
+StandsAs m plan place None events = place ≡ None
+StandsAs m plan None (Some k) events = ⊥
+StandsAs m plan (Some place) (Some k) events = KeptPlan m k plan × AtPlace (vec_items plan.rows) plan.frames place events
 
 -- The planner agrees with the account.
 pub record Agrees {B : Type 0} (meaning : B → Meaning) (p : Planner B) (a : Account) : Type 0 where
   pub figures : p.figures ≡ a.figures
-  pub standing : StandsAs (meaning p.book) p.stands p.plan p.repetition p.frame p.row a.plan a.events
+  pub standing : StandsAs (meaning p.book) p.plan p.place a.plan a.events
 
 -- The plan read where an account keeps this one: the plan that is due by the figures kept, with the hyperperiod
 -- and the size kept; none where the account keeps none.
 abbrev pub StandingRead : Meaning → Option Standing → Option Plan → Type 0
 StandingRead m None found = found ≡ None
 StandingRead m (Some k) None = ⊥
-StandingRead m (Some k) (Some plan) =
-    (k.hyperperiod ≡ plan.hyperperiod) × (k.size ≡ plan.frame_size) × ((ceiling : ℕ) × PlanMade m k.figures ceiling plan)
+StandingRead m (Some k) (Some plan) = KeptPlan m k plan
 
 -- A planner is as it was, but for the memory that it works in.
 pub record Unaltered {B : Type 0} (p q : Planner B) : Type 0 where
   pub book : q.book ≡ p.book
   pub figures : q.figures ≡ p.figures
-  pub stands : q.stands ≡ p.stands
   pub plan : q.plan ≡ p.plan
-  pub repetition : q.repetition ≡ p.repetition
-  pub frame : q.frame ≡ p.frame
-  pub row : q.row ≡ p.row
+  pub place : q.place ≡ p.place
 
 -- A planner after a refusal is unaltered; after a granted call, this says nothing.
 abbrev pub AlteredIf : {B : Type 0} → Bool → Planner B → Planner B → Type 0

@@ -47,7 +47,7 @@ pub record PlanRight (m : Meaning) (figures : List (Option Figures)) (ceiling hy
 -- The answer to a plan: granted where no refusal is due, and else the refusal that is, with number and place.
 abbrev pub PlanAnswer : Meaning → List (Option Figures) → ℕ → Answer → Type 0
 PlanAnswer m figures ceiling Charged = ⊥
-PlanAnswer m figures ceiling (Planned h f jobs rows) = PlanRight m figures ceiling h f jobs rows
+PlanAnswer m figures ceiling (Planned granted) = PlanRight m figures ceiling granted.hyperperiod granted.frame_size granted.jobs granted.rows
 PlanAnswer m figures ceiling Rewound = ⊥
 PlanAnswer m figures ceiling (Came event) = ⊥
 PlanAnswer m figures ceiling (PeriodIs period) = ⊥
@@ -69,7 +69,7 @@ ComesNext m k events event =
 -- ended.
 abbrev pub NextAnswer : Meaning → Standing → List Event → Answer → Type 0
 NextAnswer m k events Charged = ⊥
-NextAnswer m k events (Planned h f jobs rows) = ⊥
+NextAnswer m k events (Planned granted) = ⊥
 NextAnswer m k events Rewound = ⊥
 NextAnswer m k events (Came event) = (frame_ends events < 1000000 * (k.hyperperiod / k.size)) × ComesNext m k events event
 NextAnswer m k events (PeriodIs period) = ⊥
@@ -89,7 +89,7 @@ PeriodFound m (Some k) task (Some period) = (task < m.count) × Chosen m k.hyper
 
 abbrev pub PeriodRight : Meaning → Option Standing → ℕ → Answer → Type 0
 PeriodRight m plan task Charged = ⊥
-PeriodRight m plan task (Planned h f jobs rows) = ⊥
+PeriodRight m plan task (Planned granted) = ⊥
 PeriodRight m plan task Rewound = ⊥
 PeriodRight m plan task (Came event) = ⊥
 PeriodRight m plan task (PeriodIs found) = PeriodFound m plan task found

@@ -1,11 +1,12 @@
 // Calls on a planner and their answers, as values.
 
 use crate::event::Event;
+use crate::planner::calls::Granted;
 use crate::refusal::Refusal;
 use planning::Row;
 
 // A call on a planner: the four that drive it, and the reads of its plan.
-#[derive(Clone, Copy)]
+#[derive(Clone, Copy, Debug, PartialEq, Eq)]
 pub enum Call {
     Charge { task: u32, cost: u32, deadline: u32 },
     Plan { ceiling: u32 },
@@ -15,16 +16,12 @@ pub enum Call {
     RowAt { index: u32 },
 }
 
-// What a call answers.
-#[derive(Clone, Copy)]
+// What a call answers. A refusal is a case among the others: an account hears it as one more answer, and the
+// law is a match on all of them.
+#[derive(Clone, Copy, Debug, PartialEq, Eq)]
 pub enum Answer {
     Charged,
-    Planned {
-        hyperperiod: u32,
-        frame_size: u32,
-        jobs: u32,
-        rows: u32,
-    },
+    Planned(Granted),
     Rewound,
     Came(Event),
     PeriodIs(Option<u32>),

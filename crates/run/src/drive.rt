@@ -20,6 +20,7 @@ pub fn drive<B: Book + Drop>(
 {
     let mut answers = Vec::with_capacity(heap, calls.len())?;
     let mut planner = Planner::new(heap, book)?;
+    // A loop, since each call changes the planner that the next one is carried out on.
     for call in calls {
         let answer = planner.carry(*call);
         answers.push_reserved(answer);

@@ -19,8 +19,10 @@ pub enum Event {
     },
 }
 
+// What an event tells, a match for each part: one match for all of them would hand out a struct of
+// the same six fields.
 impl Event {
-    // 1 for a slice, 2 for a frame's end.
+    // 1 for a slice, 2 for a frame's end: numbers, since the rules tell the kind by them.
     pub fn kind(self) -> u32
         ensures { result ≡ (told self).kind }
     {
@@ -34,8 +36,7 @@ impl Event {
         ensures { result ≡ (told self).repetition }
     {
         match self {
-            Event::Slice { repetition, .. } => repetition,
-            Event::FrameEnd { repetition, .. } => repetition,
+            Event::Slice { repetition, .. } | Event::FrameEnd { repetition, .. } => repetition,
         }
     }
 
@@ -43,8 +44,7 @@ impl Event {
         ensures { result ≡ (told self).frame }
     {
         match self {
-            Event::Slice { frame, .. } => frame,
-            Event::FrameEnd { frame, .. } => frame,
+            Event::Slice { frame, .. } | Event::FrameEnd { frame, .. } => frame,
         }
     }
 

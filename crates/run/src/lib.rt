@@ -8,6 +8,7 @@ pub mod drive;
 pub mod event;
 pub mod planner;
 pub mod refusal;
+mod shown;
 
 pub use call::{Answer, Call};
 pub use event::Event;

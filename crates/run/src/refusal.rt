@@ -4,7 +4,7 @@ ghost use Rattle.std.specs.Prelude.{◌≡◌};
 ghost use Rattle.run.specs.declared.refusal.Refusal.TheVariants.{Planning};
 ghost use Rattle.run.specs.Refusals.{number as number_of, place as place_of};
 
-#[derive(Clone, Copy)]
+#[derive(Clone, Copy, Debug, PartialEq, Eq)]
 pub enum Refusal {
     TaskOutOfRange { task: u32 },
     CostOutOfRange { task: u32 },
@@ -14,6 +14,7 @@ pub enum Refusal {
     Ended,
 }
 
+// By hand, so that the proofs know which refusal `?` makes of planning's.
 impl From<planning::Refusal> for Refusal {
     ghost from_gives = { λ e r. r ≡ Planning e };
 
@@ -23,7 +24,7 @@ impl From<planning::Refusal> for Refusal {
 }
 
 impl Refusal {
-    // The number of the question that got a no.
+    // The number of the question that got a no, for those who print it: code matches on the cases.
     pub fn number(self) -> u32
         ensures { result ≡ number_of self }
     {
@@ -37,17 +38,16 @@ impl Refusal {
         }
     }
 
-    // The task that the refusal is about, or 0.
+    // The task that the refusal is about, or 0, as the rules write it.
     pub fn place(self) -> u32
         ensures { result ≡ place_of self }
     {
         match self {
-            Refusal::TaskOutOfRange { task } => task,
-            Refusal::CostOutOfRange { task } => task,
-            Refusal::DeadlineOutOfRange { task } => task,
+            Refusal::TaskOutOfRange { task }
+            | Refusal::CostOutOfRange { task }
+            | Refusal::DeadlineOutOfRange { task } => task,
             Refusal::Planning(refusal) => refusal.place(),
-            Refusal::NoPlan => 0,
-            Refusal::Ended => 0,
+            Refusal::NoPlan | Refusal::Ended => 0,
         }
     }
 }

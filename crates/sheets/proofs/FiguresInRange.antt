@@ -1,6 +1,6 @@
 use Rattle.std.proofs.Common.{◌≡◌, ℕ, zero, suc, ◌+◌, ◌<◌, ◌≤◌, true, false, cond, not, ◌&&◌, List, [], ◌∷◌, ◌++◌, map, length, get_or, take, drop, is_some, Some, None, Option, refl, subst, ⊎_elim, arith}
-use Rattle.std.specs.List.{AllByRecursion}
-use Rattle.std.proofs.ByRecursion.{All-from_get_or, All-map}
+use Rattle.std.specs.Prelude.{All}
+use Rattle.std.proofs.lemmas.List.Elements.{All-from_get_or, All-map}
 use Rattle.std.proofs.lemmas.Bool.{cases_lt}
 use Rattle.std.proofs.lemmas.Bool.Decides.{nat_tests}
 use Rattle.books.specs.Questions.{Question, Refused, ask, first_no, list_questions, range_questions}
@@ -55,11 +55,11 @@ lists_tell fields count h = figures_read fields 3 (number_questions 5 (drop 4 fi
 -- Where neither of two refusals is due, the first is not and the second is not.
 neither : (first second : Option Refused) → or_else first second ≡ None → (first ≡ None) × (second ≡ None)
 neither None second h = (refl, h)
-neither (Some x) second h = let z : ◌≡◌ {A = ℕ} 0 1 = cc in absurd (omega arith)
+neither (Some x) second h = cc
 
 off_line : (line : ℕ) (refused : Option Refused) → on_line line refused ≡ None → refused ≡ None
 off_line line None h = refl
-off_line line (Some x) h = let z : ◌≡◌ {A = ℕ} 0 1 = cc in absurd (omega arith)
+off_line line (Some x) h = cc
 
 -- Where the first n lines pass, each of them does.
 each_passes : (layout : Layout) (lines : List (List ℕ)) (n k : ℕ) → k < n → fault_within layout lines n ≡ None → line_fault layout lines k ≡ None
@@ -83,7 +83,7 @@ line_in_range layout lines k tell h =
     tell fields (length names) (all_yes name entry (all_yes count (name ∷ entry) word.1).1).1
 
 -- A sheet that is not refused tells only tasks with figures in range.
-sheet_in_range : (layout : Layout) (sheet : List ℕ) → Tells layout → sheet_fault layout sheet ≡ None → AllByRecursion InRange (figures_in (tasks_of layout sheet))
+sheet_in_range : (layout : Layout) (sheet : List ℕ) → Tells layout → sheet_fault layout sheet ≡ None → All InRange (figures_in (tasks_of layout sheet))
 sheet_in_range layout sheet tell stands =
     let lines = lines_of sheet in
     let passed = (neither (whole_fault sheet) (fault_within layout lines (length lines)) stands).1 in
@@ -92,8 +92,8 @@ sheet_in_range layout sheet tell stands =
     (All-from_get_or (λ line. InRange (layout.task (fields_of line)).figures) lines []
     (λ k below. line_in_range layout lines k tell (each_passes layout lines (length lines) k below passed))))
 
-pub ranges_in_range : (sheet : List ℕ) → sheet_fault range_layout sheet ≡ None → AllByRecursion InRange (figures_in (tasks_of range_layout sheet))
+pub ranges_in_range : (sheet : List ℕ) → sheet_fault range_layout sheet ≡ None → All InRange (figures_in (tasks_of range_layout sheet))
 ranges_in_range sheet = sheet_in_range range_layout sheet ranges_tell
 
-pub lists_in_range : (sheet : List ℕ) → sheet_fault list_layout sheet ≡ None → AllByRecursion InRange (figures_in (tasks_of list_layout sheet))
+pub lists_in_range : (sheet : List ℕ) → sheet_fault list_layout sheet ≡ None → All InRange (figures_in (tasks_of list_layout sheet))
 lists_in_range sheet = sheet_in_range list_layout sheet lists_tell

@@ -1,15 +1,13 @@
 -- Lemmas of the crate, each file named after the fact.
 pub mod BookOfTasks
-mod CutParts
-mod EntryLeft
+mod EntryPlaced
 pub mod FiguresInRange
 mod FirstFault
 mod NameFound
 mod NextNumber
 mod NumberRead
 mod NumbersStand
+mod PartsSplit
 mod PartsStand
 mod ReadSoFar
-mod RoomLeft
 mod SheetLines
-mod TakenNames

@@ -1,4 +1,4 @@
-use Rattle.std.specs.Prelude.{ℕ, ◌-◌, List, [], length, take, slice_index_or}
+use Rattle.std.specs.Prelude.{ℕ, ◌-◌, List, [], map, length, take, slice_index_or}
 use Rattle.sheets.specs.Text.{parts}
 
 -- The lines of a sheet: what stands before each newline.
@@ -23,3 +23,7 @@ word_in line = field_at (fields_of line) 1
 
 abbrev pub name_in : List ℕ → List ℕ
 name_in line = field_at (fields_of line) 2
+
+-- The names on the lines above the line of that number.
+abbrev pub names_above : List ℕ → ℕ → List (List ℕ)
+names_above sheet line = map name_in (take (line - 1) (parts 10 sheet))

@@ -1,4 +1,4 @@
-use Rattle.std.specs.Prelude.{◌≡◌, ℕ, ◌-◌, ◌≤◌, Bool, true, false, cond, ◌&&◌, ◌||◌, List, [], ◌++◌, length, take, is_some, Some, None, Ok, Err, Option, Result, nat_le, slice_index_or}
+use Rattle.std.specs.Prelude.{◌≡◌, ℕ, ◌-◌, ◌≤◌, Bool, true, false, cond, ◌&&◌, ◌||◌, List, [], ◌++◌, length, is_some, Some, None, Ok, Err, Option, Result, nat_le, slice_index_or}
 use Rattle.std.specs.List.{slice_get}
 use Rattle.books.specs.Meaning.{Meaning}
 use Rattle.books.specs.Questions.{Refused, refusal}
@@ -68,12 +68,12 @@ FieldIs sheet line field f =
 
 -- The figures of the tasks held.
 abbrev pub figures_held : {B : Type 0} → Tasks B → List Figures
-figures_held tasks = take tasks.count tasks.figures
+figures_held tasks = tasks.figures.items
 
 -- The tasks held are these: the book means them, and the figures are theirs.
 pub record Holds {B : Type 0} (means : B → Meaning) (held : Tasks B) (tasks : List Task) : Type 0 where
   pub meaning : means held.book ≡ meaning_of tasks
-  pub counted : held.count ≡ length tasks
+  pub counted : length (figures_held held) ≡ length tasks
   pub figures : figures_held held ≡ figures_in tasks
 
 -- A sheet read: its tasks where no refusal is due, and else the refusal that is.

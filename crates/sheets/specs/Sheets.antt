@@ -1,4 +1,5 @@
-use Rattle.std.specs.Prelude.{ℕ, zero, suc, ◌+◌, Bool, true, false, cond, not, ◌&&◌, ◌||◌, List, [], ◌∷◌, map, length, take, Some, None, Option, ◌==◌, nat_le, slice_index_or}
+use Rattle.std.specs.Prelude.{ℕ, zero, suc, ◌+◌, Bool, false, cond, not, ◌&&◌, ◌||◌, List, [], ◌∷◌, map, length, take, Some, None, Option, ◌==◌, nat_le, slice_index_or}
+use Rattle.std.specs.List.{list_all, list_any}
 use Rattle.std.specs.Str.{bytes_eq}
 use Rattle.books.specs.Meaning.{Meaning}
 use Rattle.books.specs.Questions.{Question, Refused, ask, first_no}
@@ -12,8 +13,7 @@ is_a_name_byte byte = (nat_le 97 byte && nat_le byte 122) || ((nat_le 48 byte &&
 
 -- Each byte is one of a name.
 abbrev pub are_name_bytes : List ℕ → Bool
-are_name_bytes [] = true
-are_name_bytes (byte ∷ bytes) = is_a_name_byte byte && are_name_bytes bytes
+are_name_bytes bytes = list_all is_a_name_byte bytes
 
 -- A name is 1 to 16 such bytes.
 abbrev pub is_a_name : List ℕ → Bool
@@ -21,8 +21,7 @@ is_a_name bytes = nat_le 1 (length bytes) && (nat_le (length bytes) 16 && are_na
 
 -- A name is one of those that came before.
 abbrev pub is_taken : List ℕ → List (List ℕ) → Bool
-is_taken name [] = false
-is_taken name (earlier ∷ rest) = bytes_eq name earlier || is_taken name rest
+is_taken name names = list_any (λ earlier. bytes_eq name earlier) names
 
 -- The questions put to the fields of a line, in their order, where these names came before it, one for each line.
 abbrev pub line_questions : Layout → List (List ℕ) → List (List ℕ) → List Question

@@ -1,16 +1,16 @@
-use Rattle.std.specs.Prelude.{◌≡◌, ℕ, ◌+◌, ◌<◌, ◌≤◌, true, false, not, ◌&&◌, List, [], ◌∷◌, ◌++◌, length, take, drop, Some, None, Ok, Err, Option, Result}
-use Rattle.std.specs.Borrow.{Bor}
+use Rattle.std.specs.Prelude.{◌≡◌, ℕ, ◌+◌, ◌<◌, ◌≤◌, true, false, not, ◌&&◌, List, ◌∷◌, ◌++◌, length, drop, Some, None, Ok, Err, Option, Result}
+use Rattle.arrayvec.specs.ArrayVec.{ArrayVec}
 use Rattle.books.specs.Meaning.{Meaning}
 use Rattle.books.specs.Questions.{Question, Refused, first_no, range_questions}
 use Rattle.books.specs.Sets.{Adds, is_within}
+use Rattle.books.specs.declared.fault.EntryFault.{EntryFault}
 use Rattle.planning.specs.declared.job.Figures.{Figures}
-use Rattle.sheets.specs.Entries.{Task, number_questions, periods_in}
-use Rattle.sheets.specs.Lines.{lines_of}
+use Rattle.sheets.specs.Entries.{Task, ask_number, figures_from, number_questions, periods_in}
+use Rattle.sheets.specs.Lines.{field_at, lines_of}
 use Rattle.sheets.specs.Numerals.{is_number, value}
 use Rattle.sheets.specs.Sheets.{is_a_name, is_taken, on_line, whole_fault}
-use Rattle.sheets.specs.Text.{parts}
 use Rattle.sheets.specs.declared.fault.FieldFault.{FieldFault}
-use Rattle.sheets.specs.declared.fault.FieldFault.TheVariants.{NameRefused}
+use Rattle.sheets.specs.declared.fault.FieldFault.TheVariants.{Entry, NameRefused}
 use Rattle.sheets.specs.declared.fault.SheetFault.{SheetFault}
 use Rattle.sheets.specs.declared.range_sheet.RangeEntry.{RangeEntry}
 use Rattle.sheets.specs.Reads.{field_refused, sheet_refused}
@@ -19,11 +19,6 @@ use Rattle.sheets.specs.Reads.{field_refused, sheet_refused}
 abbrev pub told : {A : Type 0} → Result A FieldFault → Option Refused
 told (Ok value) = None
 told (Err fault) = Some (field_refused fault)
-
--- The parts of a text, by what stands before and behind its first separator.
-abbrev pub CutAt : ℕ → List ℕ → Option (Bor (List ℕ) × Bor (List ℕ)) → Type 0
-CutAt separator text None = parts separator text ≡ text ∷ []
-CutAt separator text (Some p) = (parts separator text ≡ p.0.now ∷ parts separator p.1.now) × (length p.0.now + length p.1.now + 1 ≡ length text)
 
 -- The number that bytes write.
 abbrev pub NumberRead : List ℕ → Option ℕ → Type 0
@@ -35,6 +30,11 @@ pub record Entered (m n : Meaning) (task : Task) (figures : Figures) : Type 0 wh
   pub added : Adds m n task.allows
   pub room : m.count < 16
   pub figured : figures ≡ task.figures
+
+-- A book's answer to the task of a line: the same, but for the line in a refusal.
+abbrev pub Placed : ℕ → Result (Unit {0}) EntryFault → Result (Unit {0}) FieldFault → Type 0
+Placed line added (Ok done) = added ≡ Ok done
+Placed line added (Err fault) = (entry : EntryFault) × (added ≡ Err entry) × (fault ≡ Entry line entry)
 
 -- A sheet as a whole: how many lines it has, or its refusal.
 abbrev pub WholeRead : List ℕ → Result ℕ SheetFault → Type 0
@@ -55,12 +55,18 @@ RangeRead entry task line (Ok e) =
     × (task.figures ≡ e.figures)
 RangeRead entry task line (Err fault) = (count : ℕ) → on_line line (first_no (entry count)) ≡ Some (field_refused fault)
 
--- The periods read on a line into the front of a memory: they are numbers, and only the questions that follow are
--- left; or a refusal on the line.
-abbrev pub PeriodsRead : List (List ℕ) → ℕ → List ℕ → Result ℕ FieldFault → Type 0
-PeriodsRead fields line memory (Ok n) =
-    (n ≡ length (drop 4 fields))
-    × (take n memory ≡ periods_in fields)
+-- Cost and deadline read in two fields next to each other, the first of which has the given number: both are numbers;
+-- or a refusal on the line, whatever is asked behind them.
+abbrev pub FiguresRead : List (List ℕ) → ℕ → ℕ → Result Figures FieldFault → Type 0
+FiguresRead fields first line (Ok figures) =
+    (is_number (field_at fields first) ≡ true) × (is_number (field_at fields (first + 1)) ≡ true) × (figures ≡ figures_from fields first)
+FiguresRead fields first line (Err fault) =
+    (rest : List Question) → on_line line (first_no (ask_number fields first ∷ ask_number fields (first + 1) ∷ rest)) ≡ Some (field_refused fault)
+
+-- The periods read on a line: they are numbers, and only the questions that follow are left; or a refusal on the line.
+abbrev pub PeriodsRead : List (List ℕ) → ℕ → Result (ArrayVec ℕ) FieldFault → Type 0
+PeriodsRead fields line (Ok periods) =
+    (periods.items ≡ periods_in fields)
     × ((rest : List Question) → first_no (number_questions 5 (drop 4 fields) ++ rest) ≡ first_no rest)
-PeriodsRead fields line memory (Err fault) =
+PeriodsRead fields line (Err fault) =
     (rest : List Question) → on_line line (first_no (number_questions 5 (drop 4 fields) ++ rest)) ≡ Some (field_refused fault)

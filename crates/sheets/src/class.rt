@@ -1,7 +1,7 @@
 ghost use Rattle.std.specs.Prelude.{◌≡◌};
 ghost use Rattle.sheets.specs.Entries.{class_of, range_of_class};
 
-// The low and the high that a class letter stands for.
+// The low and the high that a class letter stands for. A match on letters, as the classes are written down.
 pub(crate) fn class_range(letter: char) -> Option<(u32, u32)>
     ensures { result ≡ range_of_class letter }
 {
@@ -21,7 +21,7 @@ pub(crate) fn class_named(bytes: &[u8]) -> Option<(u32, u32)>
     ensures { result ≡ class_of bytes.now }
 {
     match bytes {
-        [letter] => class_range(*letter as char),
+        [letter] => class_range(char::from(*letter)),
         _ => None,
     }
 }

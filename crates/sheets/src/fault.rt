@@ -16,6 +16,8 @@ pub enum FieldFault {
     Entry { line: u32, fault: EntryFault },
 }
 
+// What a fault tells, a match for each part, as the rules write them for those who print it: code matches on
+// the cases. A tuple of all three would name none of them.
 impl FieldFault {
     // The number of the question that got a no.
     pub fn number(self) -> u32
@@ -37,9 +39,9 @@ impl FieldFault {
         match self {
             FieldFault::UnknownWord { line }
             | FieldFault::FieldCount { line }
-            | FieldFault::NameRefused { line } => line,
-            FieldFault::Unreadable { line, .. } => line,
-            FieldFault::Entry { line, .. } => line,
+            | FieldFault::NameRefused { line }
+            | FieldFault::Unreadable { line, .. }
+            | FieldFault::Entry { line, .. } => line,
         }
     }
 
@@ -65,6 +67,7 @@ pub enum SheetFault {
     AtField(FieldFault),
 }
 
+// By hand, so that the proofs know which fault `?` makes.
 impl From<FieldFault> for SheetFault {
     ghost from_gives = { λ e r. r ≡ AtField e };
 
@@ -73,6 +76,7 @@ impl From<FieldFault> for SheetFault {
     }
 }
 
+// Told in the same three parts as the fault of a field, which has its own where it is one.
 impl SheetFault {
     // The number of the question that got a no.
     pub fn number(self) -> u32

@@ -14,6 +14,7 @@ mod number;
 mod range_sheet;
 pub mod read;
 mod sheet_book;
+mod shown;
 pub mod tasks;
 mod text;
 

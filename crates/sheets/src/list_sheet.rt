@@ -8,23 +8,26 @@ ghost use Rattle.sheets.specs.Steps.{PeriodsRead};
 use crate::fault::FieldFault;
 use crate::field::Line;
 use crate::sheet_book::SheetBook;
+use arrayvec::ArrayVec;
 use books::ListBook;
 use planning::Figures;
 
-// The first field of a line's periods.
+// The first field of a line's periods, which the book of lists counts its fields from as well.
 const FIRST: u32 = 5;
 
-// Reads the periods of a line into the front of the memory, and answers how many there are.
-fn read_periods(line: Line<'_>, periods: &mut [u32; 8]) -> Result<usize, FieldFault>
+// Reads the periods of a line.
+fn read_periods(line: Line<'_>) -> Result<ArrayVec<u32, 8>, FieldFault>
     requires some { 5 ≤ length (fields_of line.bytes.now) }
     requires few { length (fields_of line.bytes.now) ≤ 12 }
-    ensures { PeriodsRead (fields_of line.entry.bytes.now) line.entry.number periods.new result }
+    ensures { PeriodsRead (fields_of line.entry.bytes.now) line.entry.number result }
 {
-    let count = line.fields() - 4;
-    for k in 0..count {
-        periods[k] = line.field(FIRST + k as u32).number()?;
+    let mut periods = ArrayVec::new();
+    let end = line.fields() as u32 + 1;
+    // By the fields' numbers, which a fault tells.
+    for number in FIRST..end {
+        periods.push(line.field(number).number()?);
     }
-    Ok(count)
+    Ok(periods)
 }
 
 impl SheetBook for ListBook {
@@ -39,20 +42,13 @@ impl SheetBook for ListBook {
     }
 
     fn is_count(word: &[u8], count: usize) -> bool {
-        5 <= count && count <= 12
+        (5..=12).contains(&count)
     }
 
     fn enter(&mut self, line: Line<'_>) -> Result<Figures, FieldFault> {
-        let cost = line.field(3).number()?;
-        let deadline = line.field(4).number()?;
-        let mut periods = [0; 8];
-        let count = read_periods(line, &mut periods)?;
-        match self.add(&periods[..count]) {
-            Ok(()) => Ok(Figures { cost, deadline }),
-            Err(fault) => Err(FieldFault::Entry {
-                line: line.number,
-                fault,
-            }),
-        }
+        let figures = line.figures(3)?;
+        let periods = read_periods(line)?;
+        line.placed(self.add(&periods))?;
+        Ok(figures)
     }
 }

@@ -1,64 +1,55 @@
 // The names of tasks.
 
-ghost use Rattle.std.specs.Prelude.{◌≡◌, ◌≤◌, [], map, length, take, slice_index_or};
+ghost use Rattle.std.specs.Prelude.{◌≡◌};
 ghost use Rattle.std.specs.Option.{option_map};
-ghost use Rattle.sheets.specs.Lines.{name_in};
+ghost use Rattle.sheets.specs.Lines.{name_in as name_in_line, names_above};
 ghost use Rattle.sheets.specs.Reads.{name_found};
 ghost use Rattle.sheets.specs.Steps.{NameRead};
 ghost use Rattle.sheets.specs.Sheets.{is_a_name, is_a_name_byte, is_taken as is_taken_by};
-ghost use Rattle.sheets.specs.Text.{parts};
 
 use crate::fault::FieldFault;
 use crate::field::Line;
 use crate::read::{read_lists, read_ranges};
 use crate::text::part;
-use books::Book;
 
 // Whether the bytes are a name.
 fn is_name(bytes: &[u8]) -> bool
     ensures { result ≡ is_a_name bytes.now }
 {
-    if bytes.is_empty() || bytes.len() > 16 {
-        return false;
-    }
-    for byte in bytes {
-        if !is_name_byte(*byte) {
-            return false;
-        }
-    }
-    true
+    (1..=16).contains(&bytes.len()) && bytes.iter().all(|byte| is_name_byte(*byte))
 }
 
 // Whether the byte is one of a name: a to z, 0 to 9, or a hyphen.
 fn is_name_byte(byte: u8) -> bool
     ensures { result ≡ is_a_name_byte byte }
 {
-    match byte {
-        b'a'..=b'z' | b'0'..=b'9' | b'-' => true,
-        _ => false,
-    }
+    matches!(byte, b'a'..=b'z' | b'0'..=b'9' | b'-')
 }
 
-// Whether the name stands on one of the first lines of the sheet.
-fn is_taken(sheet: &[u8], lines: usize, name: &[u8]) -> bool
-    requires { lines ≤ length (parts 10 sheet.now) }
-    ensures { result ≡ is_taken_by name.now (map name_in (take lines (parts 10 sheet.now))) }
+// The name on a line: its second field.
+fn name_in(line: &[u8]) -> &[u8]
+    ensures { result.now ≡ name_in_line line.now }
 {
-    for before in 0..lines {
-        if name_on(sheet, before) == name {
-            return true;
-        }
-    }
-    false
+    part(line, b',', 1)
 }
 
-// Refuses the line, which has so many before it, unless its name is one and new in the sheet.
-pub(crate) fn check_name(sheet: &[u8], before: usize, line: Line<'_>) -> Result<(), FieldFault>
-    requires { before ≤ length (parts 10 sheet.now) }
-    ensures { NameRead (map name_in (take before (parts 10 sheet.now))) (name_in line.entry.bytes.now) line.entry.number result }
+// Whether a line above has the name too.
+fn is_taken(line: Line<'_>, name: &[u8]) -> bool
+    ensures { result ≡ is_taken_by name.now (names_above line.entry.sheet.now line.entry.number) }
 {
-    let name = line.field(2).bytes();
-    if is_name(name) && !is_taken(sheet, before, name) {
+    line.sheet
+        .split(|byte| *byte == b'\n')
+        .take(line.number as usize - 1)
+        .map(name_in)
+        .any(|earlier| name == earlier)
+}
+
+// Refuses the line unless its name is one and new in the sheet.
+pub(crate) fn check_name(line: Line<'_>) -> Result<(), FieldFault>
+    ensures { NameRead (names_above line.entry.sheet.now line.entry.number) (name_in_line line.entry.bytes.now) line.entry.number result }
+{
+    let name = name_in(line.bytes);
+    if is_name(name) && !is_taken(line, name) {
         Ok(())
     } else {
         Err(FieldFault::NameRefused { line: line.number })
@@ -70,26 +61,9 @@ pub(crate) fn check_name(sheet: &[u8], before: usize, line: Line<'_>) -> Result<
 pub fn name_of<'a>(ranges: &'a [u8], lists: &'a [u8], task: u32) -> Option<&'a [u8]>
     ensures { option_map (λ x. x.now) result ≡ name_found ranges.now lists.now task }
 {
-    let Ok(first) = read_ranges(ranges) else {
-        return None;
-    };
-    let Ok(second) = read_lists(lists) else {
-        return None;
-    };
-    let task = task as usize;
-    if task < first.count() {
-        return Some(name_on(ranges, task));
-    }
-    let task = task - first.count();
-    if task < second.count() {
-        return Some(name_on(lists, task));
-    }
-    None
-}
-
-// The name on the line that has so many before it.
-fn name_on<'a>(sheet: &'a [u8], before: usize) -> &'a [u8]
-    ensures { result.now ≡ name_in (slice_index_or (parts 10 sheet.now) before []) }
-{
-    part(part(sheet, b'\n', before), b',', 1)
+    let first = read_ranges(ranges).ok()?.count();
+    let second = read_lists(lists).ok()?.count();
+    let ranges = ranges.split(|byte| *byte == b'\n').take(first);
+    let lists = lists.split(|byte| *byte == b'\n').take(second);
+    ranges.chain(lists).map(name_in).nth(task as usize)
 }

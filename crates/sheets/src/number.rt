@@ -4,18 +4,12 @@ ghost use Rattle.sheets.specs.Steps.{NumberRead};
 pub(crate) fn parse_number(bytes: &[u8]) -> Option<u32>
     ensures { NumberRead bytes.now result }
 {
-    if bytes.is_empty() || bytes.len() > 6 || bytes[0] == b'0' {
+    if !(1..=6).contains(&bytes.len())
+        || bytes[0] == b'0'
+        || !bytes.iter().all(u8::is_ascii_digit)
+    {
         return None;
     }
-    let mut number: u32 = 0;
-    for byte in bytes {
-        if *byte < b'0' || *byte > b'9' {
-            return None;
-        }
-        number = number * 10 + (*byte - b'0') as u32;
-    }
-    if number > 200_000 {
-        return None;
-    }
-    Some(number)
+    let number = str::from_utf8(bytes).ok()?.parse().ok()?;
+    (number <= 200_000).then_some(number)
 }

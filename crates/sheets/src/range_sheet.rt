@@ -11,7 +11,7 @@ use books::RangeBook;
 use planning::Figures;
 
 // What a line says behind its name.
-#[derive(Clone, Copy)]
+#[derive(Clone, Copy, Debug, PartialEq, Eq)]
 struct RangeEntry {
     low: u32,
     high: u32,
@@ -23,13 +23,8 @@ fn class_entry(line: Line<'_>) -> Result<RangeEntry, FieldFault>
     ensures { RangeRead (entry_of_class (fields_of line.entry.bytes.now)) (class_task (fields_of line.entry.bytes.now)) line.entry.number result }
 {
     let (low, high) = line.field(3).class()?;
-    let cost = line.field(4).number()?;
-    let deadline = line.field(5).number()?;
-    Ok(RangeEntry {
-        low,
-        high,
-        figures: Figures { cost, deadline },
-    })
+    let figures = line.figures(4)?;
+    Ok(RangeEntry { low, high, figures })
 }
 
 // The entry of a line that gives a range.
@@ -38,13 +33,8 @@ fn range_entry(line: Line<'_>) -> Result<RangeEntry, FieldFault>
 {
     let low = line.field(3).number()?;
     let high = line.field(4).number()?;
-    let cost = line.field(5).number()?;
-    let deadline = line.field(6).number()?;
-    Ok(RangeEntry {
-        low,
-        high,
-        figures: Figures { cost, deadline },
-    })
+    let figures = line.figures(5)?;
+    Ok(RangeEntry { low, high, figures })
 }
 
 // The entry of a line, by its word.
@@ -79,12 +69,7 @@ impl SheetBook for RangeBook {
 
     fn enter(&mut self, line: Line<'_>) -> Result<Figures, FieldFault> {
         let entry = read_entry(line)?;
-        match self.add(entry.low, entry.high) {
-            Ok(()) => Ok(entry.figures),
-            Err(fault) => Err(FieldFault::Entry {
-                line: line.number,
-                fault,
-            }),
-        }
+        line.placed(self.add(entry.low, entry.high))?;
+        Ok(entry.figures)
     }
 }

@@ -1,6 +1,6 @@
 // Reading a whole sheet into a book of its tasks.
 
-ghost use Rattle.std.specs.Prelude.{◌≡◌, ◌<◌, ◌≤◌, [], length, MatchResult, slice_index_or};
+ghost use Rattle.std.specs.Prelude.{◌≡◌, ◌+◌, ◌-◌, MatchResult};
 ghost use Rattle.books.specs.Sets.{lists_of, ranges_of};
 ghost use Rattle.sheets.specs.Entries.{list_layout, range_layout};
 ghost use Rattle.sheets.specs.Lines.{fields_of};
@@ -15,10 +15,12 @@ use crate::names::check_name;
 use crate::sheet_book::SheetBook;
 use crate::tasks::Tasks;
 use crate::text::{count_parts, part};
+use arrayvec::ArrayVec;
 use books::{ListBook, RangeBook};
 use planning::Figures;
 
-// Reads a range sheet.
+// Reads a range sheet. This call and the next name the two books that the reader below is for: its trait is
+// the crate's own.
 pub fn read_ranges(sheet: &[u8]) -> Result<Tasks<RangeBook>, SheetFault>
     ensures { SheetRead ranges_of range_layout sheet.now result }
 {
@@ -38,18 +40,13 @@ fn read<B: SheetBook + Drop>(sheet: &[u8]) -> Result<Tasks<B>, SheetFault>
 {
     let lines = check_whole(sheet)?;
     let mut book = B::empty();
-    let mut figures = [Figures {
-        cost: 1,
-        deadline: 1,
-    }; 16];
+    let mut figures = ArrayVec::new();
+    // By place: a `for` over the parts does not check in a function generic over the book.
     for before in 0..lines {
-        figures[before] = read_line(sheet, before, &mut book)?;
+        let line = Line::at(sheet, before);
+        figures.push(read_line(line, &mut book)?);
     }
-    Ok(Tasks {
-        book,
-        figures,
-        count: lines,
-    })
+    Ok(Tasks { book, figures })
 }
 
 // Refuses a sheet that is too long, or whose last line does not end; answers how many lines there are.
@@ -68,18 +65,12 @@ fn check_whole(sheet: &[u8]) -> Result<usize, SheetFault>
     Ok(lines)
 }
 
-// Enters the task of the line that has so many before it, and answers its figures.
-fn read_line<B: SheetBook>(sheet: &[u8], before: usize, book: &mut B) -> Result<Figures, FieldFault>
-    requires few { before ≤ 4096 }
-    requires there { before < length (parts 10 sheet.now) }
-    requires counted { (B.Book.means book.old).count ≡ before }
-    ensures answer { told result ≡ line_fault B.SheetBook.layout (parts 10 sheet.now) before }
-    ensures after { MatchResult result (λ f. Entered (B.Book.means book.old) (B.Book.means book.new) (B.SheetBook.layout.task (fields_of (slice_index_or (parts 10 sheet.now) before []))) f) (λ _. book.new ≡ book.old) }
+// Enters the task of a line, and answers its figures.
+fn read_line<B: SheetBook>(line: Line<'_>, book: &mut B) -> Result<Figures, FieldFault>
+    requires { (B.Book.means book.old).count + 1 ≡ line.number }
+    ensures answer { told result ≡ line_fault B.SheetBook.layout (parts 10 line.entry.sheet.now) (line.entry.number - 1) }
+    ensures after { MatchResult result (λ f. Entered (B.Book.means book.old) (B.Book.means book.new) (B.SheetBook.layout.task (fields_of line.entry.bytes.now)) f) (λ _. book.new ≡ book.old) }
 {
-    let line = Line {
-        bytes: part(sheet, b'\n', before),
-        number: before as u32 + 1,
-    };
     let word = line.field(1).bytes();
     if !B::is_word(word) {
         return Err(FieldFault::UnknownWord { line: line.number });
@@ -87,6 +78,6 @@ fn read_line<B: SheetBook>(sheet: &[u8], before: usize, book: &mut B) -> Result<
     if !B::is_count(word, line.fields()) {
         return Err(FieldFault::FieldCount { line: line.number });
     }
-    check_name(sheet, before, line)?;
+    check_name(line)?;
     book.enter(line)
 }

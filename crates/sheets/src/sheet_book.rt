@@ -24,7 +24,8 @@ pub(crate) trait SheetBook: Book {
     fn is_word(word: &[u8]) -> bool
         ensures { result ≡ layout.is_word word.now };
 
-    // Whether a line that begins with the word may have so many fields.
+    // Whether a line that begins with the word may have so many fields. Word and count alone, and not the
+    // line, since that is all that a layout knows.
     fn is_count(word: &[u8], count: usize) -> bool
         ensures { result ≡ layout.is_count word.now count };
 

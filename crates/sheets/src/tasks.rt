@@ -1,5 +1,6 @@
-ghost use Rattle.std.specs.Prelude.{◌≤◌};
+ghost use Rattle.std.specs.Prelude.{◌≤◌, length};
 
+use arrayvec::ArrayVec;
 use planning::Figures;
 
 pub mod reads;
@@ -8,7 +9,6 @@ pub mod reads;
 #[derive(Drop)]
 pub struct Tasks<B> {
     pub(crate) book: B,
-    pub(crate) figures: [Figures; 16],
-    pub(crate) count: usize,
-    ghost few: { count ≤ 16 },
+    pub(crate) figures: ArrayVec<Figures, 16>,
+    ghost few: { length figures.items ≤ 16 },
 }

@@ -1,23 +1,18 @@
 // The answers to calls, in lines.
 
-use planning::Row;
-use run::{Answer, Event, Refusal};
+use run::{Answer, Event};
+use std::fmt::Display;
 use std::io;
 
 pub(crate) fn line(rt: &HostRuntime, answer: Answer) -> io::Result<()> {
     match answer {
         Answer::Charged => println!(rt; "charged"),
-        Answer::Planned {
-            hyperperiod,
-            frame_size,
-            jobs,
-            rows,
-        } => println!(rt; "planned,{hyperperiod},{frame_size},{jobs},{rows}"),
+        Answer::Planned(granted) => println!(rt; "planned,{granted}"),
         Answer::Rewound => println!(rt; "rewound"),
         Answer::Came(event) => came(rt, event),
-        Answer::PeriodIs(period) => period_is(rt, period),
-        Answer::RowIs(row) => row_is(rt, row),
-        Answer::Refused(refusal) => refused(rt, refusal),
+        Answer::PeriodIs(period) => read(rt, "period", period),
+        Answer::RowIs(row) => read(rt, "row", row),
+        Answer::Refused(refusal) => println!(rt; "refused,{refusal}"),
     }
 }
 
@@ -34,28 +29,10 @@ fn came(rt: &HostRuntime, event: Event) -> io::Result<()> {
     }
 }
 
-fn period_is(rt: &HostRuntime, period: Option<u32>) -> io::Result<()> {
-    match period {
-        Some(period) => println!(rt; "period,{period}"),
-        None => println!(rt; "period,none"),
+// What was read, behind its word, or that there is none.
+fn read<T: Display + Drop>(rt: &HostRuntime, word: &str, found: Option<T>) -> io::Result<()> {
+    match found {
+        Some(found) => println!(rt; "{word},{found}"),
+        None => println!(rt; "{word},none"),
     }
-}
-
-fn row_is(rt: &HostRuntime, row: Option<Row>) -> io::Result<()> {
-    match row {
-        Some(row) => {
-            let frame = row.frame;
-            let task = row.task;
-            let job = row.job;
-            let length = row.length;
-            println!(rt; "row,{frame},{task},{job},{length}")
-        }
-        None => println!(rt; "row,none"),
-    }
-}
-
-fn refused(rt: &HostRuntime, refusal: Refusal) -> io::Result<()> {
-    let number = refusal.number();
-    let place = refusal.place();
-    println!(rt; "refused,{number},{place}")
 }

@@ -16,13 +16,7 @@ use std::io;
 use std::process::ExitCode;
 
 fn main(rt: HostRuntime) -> ExitCode {
-    match run_all(&rt) {
-        Ok(()) => ExitCode::SUCCESS,
-        Err(error) => {
-            let _ = eprintln!(rt; "trials: {error}");
-            ExitCode::FAILURE
-        }
-    }
+    programs::exit_code(&rt, "trials", run_all(&rt))
 }
 
 fn run_all(rt: &HostRuntime) -> anyhow::Result<()> {

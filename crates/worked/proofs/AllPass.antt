@@ -1,7 +1,7 @@
-use Rattle.std.proofs.Common.{◌≡◌, ℕ, ◌<◌, Bool, true, ◌&&◌, List, [], ◌∷◌, Decides, refl}
-use Rattle.std.specs.List.{AllByRecursion}
+use Rattle.std.proofs.Common.{◌≡◌, ℕ, ◌<◌, Bool, true, List, length, slice_index_or, refl}
+use Rattle.std.specs.List.{list_all}
 use Rattle.std.proofs.lemmas.Bool.Decides.{Decides-below_and}
-use Rattle.std.proofs.ByRecursion.{Decides-by_and}
+use Rattle.std.proofs.lemmas.List.Sums.{AllPass-from_list_all}
 use Rattle.planning.specs.Placing.{every}
 
 -- A test that holds of every number below n holds of each.
@@ -10,8 +10,8 @@ each_of n test = (Decides-below_and test (λ k. test k ≡ true) (λ n. every n 
 
 -- Each of the tests passes.
 abbrev pub all_pass : List Bool → Bool
-all_pass [] = true
-all_pass (test ∷ tests) = test && all_pass tests
+all_pass = list_all (λ test. test)
 
-pub all_pass_lem : (tests : List Bool) → Decides (all_pass tests) (AllByRecursion (λ test. test ≡ true) tests)
-all_pass_lem = Decides-by_and (λ test. test) (λ test. test ≡ true) all_pass (λ test. (λ e. e, λ e. e)) refl (λ _ _. refl)
+-- Where all pass, so does each, by its place.
+pub passes : (tests : List Bool) → all_pass tests ≡ true → (k : ℕ) → k < length tests → slice_index_or tests k true ≡ true
+passes tests all k below = AllPass-from_list_all (λ test. test) tests all k true below

@@ -1,6 +1,6 @@
-use Rattle.std.proofs.Common.{◌≡◌, ℕ, suc, ◌%◌, ◌≤◌, Bool, true, eqb, leb, List, [], ◌∷◌, get_or, is_some, None, Option, refl, inr, arith}
-use Rattle.std.specs.List.{AllByRecursion}
+use Rattle.std.proofs.Common.{◌≡◌, ℕ, suc, ◌%◌, ◌≤◌, Bool, true, eqb, leb, List, [], ◌∷◌, get_or, is_some, All, None, Option, refl, inr, arith}
 use Rattle.std.proofs.lemmas.Bool.{and_parts, leb-true}
+use Rattle.std.proofs.lemmas.List.Elements.{All-cons, All-nil}
 use Rattle.books.specs.Meaning.{Meaning}
 use Rattle.books.specs.Sets.{gridded, is_within}
 use Rattle.planning.specs.declared.job.Figures.{Figures}
@@ -11,7 +11,7 @@ use Rattle.planning.specs.Refusals.{CeilingInRange, CountInRange}
 use Rattle.planning.specs.Windows.{placed}
 use Rattle.sheets.specs.Sheets.{meaning_of}
 use Rattle.worked.specs.Worked.{Figure, Finds, Found, Holds, Periods, PlanRefused, SeekRefused, Size, WorkedFigures, period_at, seven_to_nine, ten_to_twelve, worked_figures}
-use Rattle.worked.proofs.AllPass.{all_pass_lem, all_pass, each_of}
+use Rattle.worked.proofs.AllPass.{all_pass, each_of, passes}
 use Rattle.worked.proofs.ServesDecided.{chosen_period, is_chosen, least_hyperperiod, least_tests, no_period_none_serves, none_serves}
 use Rattle.worked.proofs.SizesDecided.{every_size_overloaded, is_barred, largest_size, largest_tests}
 
@@ -21,8 +21,10 @@ range_tests m ceiling = leb 1 ceiling ∷ leb ceiling 1000000 ∷ leb 1 m.count 
 
 in_range : (m : Meaning) (ceiling : ℕ) → all_pass (range_tests m ceiling) ≡ true → CeilingInRange ceiling × CountInRange m
 in_range m ceiling test =
-    let each = (all_pass_lem (range_tests m ceiling)).0 test in
-    ((leb-true 1 ceiling each.0, leb-true ceiling 1000000 each.1.0), (leb-true 1 m.count each.1.1.0, leb-true m.count 16 each.1.1.1.0))
+    let each = passes (range_tests m ceiling) test in (
+      (leb-true 1 ceiling (each 0 (omega arith)), leb-true ceiling 1000000 (each 1 (omega arith))),
+      (leb-true 1 m.count (each 2 (omega arith)), leb-true m.count 16 (each 3 (omega arith))),
+    )
 
 -- They are, and this is the least hyperperiod, and these are the chosen periods.
 abbrev periods_tests : Meaning → ℕ → ℕ → List ℕ → List Bool
@@ -31,13 +33,13 @@ periods_tests m ceiling h periods =
 
 periods_found : (m : Meaning) (charges : List (Option Figures)) (ceiling h : ℕ) (periods : List ℕ) → all_pass (periods_tests m ceiling h periods) ≡ true → Finds m charges ceiling (Periods h periods)
 periods_found m charges ceiling h periods test =
-    let each = (all_pass_lem (periods_tests m ceiling h periods)).0 test in
-    let range = in_range m ceiling each.0 in
-    let least = least_hyperperiod m ceiling h each.1.0 in (
+    let each = passes (periods_tests m ceiling h periods) test in
+    let range = in_range m ceiling (each 0 (omega arith)) in
+    let least = least_hyperperiod m ceiling h (each 1 (omega arith)) in (
       (range.0, range.1, least),
       λ task below.
           chosen_period m h task (period_at periods task) least.low
-          (each_of m.count (λ task. is_chosen m h task (period_at periods task)) each.1.1.0 task below),
+          (each_of m.count (λ task. is_chosen m h task (period_at periods task)) (each 2 (omega arith)) task below),
     )
 
 -- All that, and every task has a cost and a deadline, and the jobs are few enough.
@@ -68,18 +70,18 @@ Shown m charges ceiling (PlanRefused number) =
 module _ (m : Meaning) (charges : List (Option Figures)) (ceiling h : ℕ) (periods : List ℕ) (test : all_pass (plan_tests m charges ceiling h periods) ≡ true) where
   prepared : Prepared m charges ceiling h (period_at periods)
   prepared =
-      let each = (all_pass_lem (plan_tests m charges ceiling h periods)).0 test in
-      let found = periods_found m charges ceiling h periods each.0 in
+      let each = passes (plan_tests m charges ceiling h periods) test in
+      let found = periods_found m charges ceiling h periods (each 0 (omega arith)) in
       record {
         ceiling_fits = found.0.0;
         count_fits = found.0.1;
-        charged = each_of m.count (λ task. is_some (get_or charges task None)) each.1.0;
+        charged = each_of m.count (λ task. is_some (get_or charges task None)) (each 1 (omega arith));
         least = found.0.2;
         chosen = found.1;
       }
 
   few_jobs : jobs_in h (period_at periods) m.count ≤ 1024
-  few_jobs = leb-true (jobs_in h (period_at periods) m.count) 1024 ((all_pass_lem (plan_tests m charges ceiling h periods)).0 test).1.1.0
+  few_jobs = leb-true (jobs_in h (period_at periods) m.count) 1024 (passes (plan_tests m charges ceiling h periods) test 2 (omega arith))
 
 shown_found : (m : Meaning) (charges : List (Option Figures)) (ceiling : ℕ) (found : Found) → Shown m charges ceiling found → Finds m charges ceiling found
 shown_found m charges ceiling (Periods h periods) test = periods_found m charges ceiling h periods test
@@ -102,10 +104,15 @@ shown_found m charges ceiling (PlanRefused number) (nine, h, periods, test, barr
       },
     ))))
 
-each_holds : (figures : List Figure) → AllByRecursion (λ figure. Shown figure.book figure.charges figure.ceiling figure.found) figures → AllByRecursion Holds figures
-each_holds [] shown = tt
+-- What is computed for each figure of a list.
+abbrev EachShown : List Figure → Type 0
+EachShown [] = Unit {0}
+EachShown (figure ∷ rest) = Shown figure.book figure.charges figure.ceiling figure.found × EachShown rest
+
+each_holds : (figures : List Figure) → EachShown figures → All Holds figures
+each_holds [] shown = All-nil Holds
 each_holds (figure ∷ rest) (one, shown) =
-    (shown_found figure.book figure.charges figure.ceiling figure.found one, each_holds rest shown)
+    All-cons Holds figure rest (shown_found figure.book figure.charges figure.ceiling figure.found one) (each_holds rest shown)
 
 -- No number from 7 to 9 is on the grid of step 5, and other periods the task has not.
 none_on_the_grid : NoneServes (gridded 5 (meaning_of (seven_to_nine ∷ []))) 1000000

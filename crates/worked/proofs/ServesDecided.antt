@@ -4,7 +4,7 @@ use Rattle.std.proofs.lemmas.Bool.Decides.{Decides-and, Decides-below_and, Decid
 use Rattle.books.specs.Meaning.{Meaning}
 use Rattle.planning.specs.Hyperperiod.{AllowedDivisor, Chosen, LeastHyperperiod, NoneServes, Serves, ServesTask}
 use Rattle.planning.specs.Placing.{every}
-use Rattle.worked.proofs.AllPass.{all_pass_lem, all_pass, each_of}
+use Rattle.worked.proofs.AllPass.{all_pass, each_of, passes}
 
 -- A divisor of a number from 1 on is no greater.
 pub divisor_at_most : (n p : ℕ) → 1 ≤ n → n % p ≡ 0 → p < suc n
@@ -63,13 +63,13 @@ least_tests m ceiling h = leb 1 h ∷ leb h ceiling ∷ is_serving m h ∷ is_un
 
 pub least_hyperperiod : (m : Meaning) (ceiling h : ℕ) → all_pass (least_tests m ceiling h) ≡ true → LeastHyperperiod m ceiling h
 least_hyperperiod m ceiling h test =
-    let each = (all_pass_lem (least_tests m ceiling h)).0 test in
-    let low : 1 ≤ h = leb-true 1 h each.0 in
+    let each = passes (least_tests m ceiling h) test in
+    let low : 1 ≤ h = leb-true 1 h (each 0 (omega arith)) in
     record {
       low = low;
-      high = leb-true h ceiling each.1.0;
-      serves = (serving_decides m h low).0 each.1.1.0;
-      least = unserved m h each.1.1.1.0;
+      high = leb-true h ceiling (each 1 (omega arith));
+      serves = (serving_decides m h low).0 (each 2 (omega arith));
+      least = unserved m h (each 3 (omega arith));
     }
 
 abbrev pub is_chosen : Meaning → ℕ → ℕ → ℕ → Bool

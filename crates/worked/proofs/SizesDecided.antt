@@ -1,10 +1,10 @@
 use Rattle.std.proofs.Common.{◌≡◌, ℕ, suc, ◌-◌, ◌*◌, ◌/◌, ◌%◌, ◌<◌, ◌≤◌, Bool, true, not, ◌||◌, eqb, leb, List, [], ◌∷◌, Decides, refl, ⊎_elim, arith}
-use Rattle.std.proofs.lemmas.Bool.{eq-eqb, eqb-true, le-leb, leb-true, not-true, or_cases}
+use Rattle.std.proofs.lemmas.Bool.{and_from, eq-eqb, eqb-true, le-leb, leb-true, not-true, or_cases}
 use Rattle.std.proofs.lemmas.Bool.Decides.{Decides-below_and, Decides-like, not_from_Decides}
 use Rattle.planning.specs.Placing.{Frames, Fillable, Jobs, Overloaded, every, load}
 use Rattle.planning.specs.Sizes.{EverySizeOverloaded, LargestSize, Permitted, frames_of}
 use Rattle.planning.proofs.Equivalence.{placing_theorem}
-use Rattle.worked.proofs.AllPass.{all_pass_lem, all_pass, each_of}
+use Rattle.worked.proofs.AllPass.{all_pass, each_of, passes}
 use Rattle.worked.proofs.ServesDecided.{divisor_at_most}
 
 -- No run of frames that ends at b is overloaded.
@@ -33,11 +33,16 @@ abbrev permitted_tests : ℕ → ℕ → List Bool
 permitted_tests h size = leb 1 size ∷ eqb (h % size) 0 ∷ leb (h / size) 256 ∷ []
 
 permitted_decides : (h size : ℕ) → Decides (all_pass (permitted_tests h size)) (Permitted h size)
-permitted_decides h size =
-    Decides-like (all_pass (permitted_tests h size))
-    (λ each. record { some = leb-true 1 size each.0; divides = eqb-true (h % size) 0 each.1.0; few = leb-true (h / size) 256 each.1.1.0 })
-    (λ p. (le-leb 1 size p.some, (eq-eqb (h % size) 0 p.divides, (le-leb (h / size) 256 p.few, tt))))
-    (all_pass_lem (permitted_tests h size))
+permitted_decides h size = (
+  λ test.
+      let each = passes (permitted_tests h size) test in
+      record {
+        some = leb-true 1 size (each 0 (omega arith));
+        divides = eqb-true (h % size) 0 (each 1 (omega arith));
+        few = leb-true (h / size) 256 (each 2 (omega arith));
+      },
+  λ p. and_from (leb 1 size) _ (le-leb 1 size p.some) (and_from (eqb (h % size) 0) _ (eq-eqb (h % size) 0 p.divides) (and_from (leb (h / size) 256) true (le-leb (h / size) 256 p.few) refl)),
+)
 
 -- The size is not permitted, or some run of frames of that size is overloaded.
 abbrev pub is_barred : Jobs → ℕ → ℕ → Bool
@@ -66,14 +71,14 @@ module _ (js : Jobs) (h : ℕ) (some : 1 ≤ h) where
 
   pub largest_size : (size : ℕ) → all_pass (largest_tests js h size) ≡ true → LargestSize js h size
   largest_size size test =
-      let each = (all_pass_lem (largest_tests js h size)).0 test in
+      let each = passes (largest_tests js h size) test in
       record {
-        permitted = (permitted_decides h size).0 each.0;
-        fillable = (fillable_decides js (frames_of h size)).0 each.1.0;
+        permitted = (permitted_decides h size).0 (each 0 (omega arith));
+        fillable = (fillable_decides js (frames_of h size)).0 (each 1 (omega arith));
         largest = λ other p fillable.
             ⊎_elim {C = other ≤ size}
             (λ low. leb-true other size low)
             (λ fails. absurd (barred other fails p fillable))
             (or_cases (leb other size) (is_barred js h other)
-            (each_of (suc h) (λ other. leb other size || is_barred js h other) each.1.1.0 other (divisor_at_most h other some p.divides)));
+            (each_of (suc h) (λ other. leb other size || is_barred js h other) (each 2 (omega arith)) other (divisor_at_most h other some p.divides)));
       }

@@ -1,5 +1,4 @@
-use Rattle.std.specs.Prelude.{ℕ, ◌<◌, ◌≤◌, Bool, List, [], ◌∷◌, map, Some, Ok, Option, slice_index}
-use Rattle.std.specs.List.{AllByRecursion}
+use Rattle.std.specs.Prelude.{ℕ, ◌<◌, ◌≤◌, Bool, List, [], ◌∷◌, map, All, Some, Ok, Option, slice_index}
 use Rattle.books.specs.Meaning.{Meaning}
 use Rattle.books.specs.Sets.{beside, gridded, is_among, is_within}
 use Rattle.planning.specs.declared.job.Figures.{Figures}
@@ -91,4 +90,4 @@ worked_figures =
 
 -- Each of the worked figures holds.
 abbrev pub WorkedFigures : Type 0
-WorkedFigures = AllByRecursion Holds worked_figures
+WorkedFigures = All Holds worked_figures

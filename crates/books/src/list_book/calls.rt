@@ -1,7 +1,9 @@
-ghost use Rattle.std.specs.Prelude.{◌≡◌, ◌+◌, ◌<◌, MatchResult, slice_set};
-ghost use Rattle.books.specs.Periods.{OneToEight, AllPeriods, StrictlyRising};
+ghost use Rattle.std.specs.Prelude.{◌≡◌, ◌+◌, ◌<◌, IfSome, MatchResult, slice_set};
+ghost use Rattle.std.specs.Option.{SomeIff, option_copied};
+ghost use Rattle.books.specs.Periods.{Lawful};
 ghost use Rattle.books.specs.Questions.{first_no, list_questions, told};
-ghost use Rattle.books.specs.Sets.{Adds, Empty, is_among, lists_of};
+ghost use Rattle.books.specs.Sets.{Adds, Empty, is_among, lists_of, row_at};
+ghost use Rattle.books.specs.ListsFair.{lists_fair};
 
 use crate::book::Book;
 use crate::fault::EntryFault;
@@ -42,9 +44,7 @@ impl ListBook {
     // The book with one task more, which has the periods of the row.
     fn with(self, row: PeriodRow) -> ListBook
         requires room { self.used < 16 }
-        requires counted { OneToEight row }
-        requires bounded { AllPeriods row }
-        requires rising { StrictlyRising row }
+        requires lawful { Lawful row }
         ensures rows { result.rows ≡ slice_set self.rows self.used row }
         ensures used { result.used ≡ self.used + 1 }
     {
@@ -55,25 +55,34 @@ impl ListBook {
             used: self.used + 1,
         }
     }
+
+    // The row of a task, if there is such a task.
+    fn row(&self, task: u32) -> Option<&PeriodRow>
+        ensures lawful { IfSome result (λ row. Lawful row.now) }
+        ensures value { SomeIff (option_copied result) (task < self.now.used) (row_at self.now task) }
+    {
+        self.rows[..self.used].get(task as usize)
+    }
 }
 
 impl Book for ListBook {
     ghost means = { lists_of };
+
+    ghost fair = { lists_fair };
 
     fn count(&self) -> u32 {
         self.used as u32
     }
 
     fn allows(&self, task: u32, period: u32) -> bool {
-        let task = task as usize;
-        task < self.used && self.rows[task].holds(period)
+        // A match, since a row may only be asked where it is one of the book's.
+        match self.row(task) {
+            Some(row) => row.holds(period),
+            None => false,
+        }
     }
 
     fn next_allowed(&self, task: u32, from: u32) -> Option<u32> {
-        let task = task as usize;
-        if task >= self.used {
-            return None;
-        }
-        self.rows[task].next_from(from)
+        self.row(task)?.next_from(from)
     }
 }

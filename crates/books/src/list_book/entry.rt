@@ -4,7 +4,8 @@ ghost use Rattle.books.specs.Questions.{first_no, period_questions, rising_quest
 use crate::fault::EntryFault;
 use crate::period::is_period;
 
-// The periods of an entry stand in its fields from this one on.
+// The periods of an entry stand in its fields from this one on. Both checks and the row that follows take a
+// lent slice of at most eight: a type for that would be made by its caller's one test and live for three calls.
 const FIRST_FIELD: u32 = 5;
 
 // Refuses the first number that is no period.
@@ -27,12 +28,17 @@ pub(super) fn check_rising(periods: &[u32]) -> Result<(), EntryFault>
     requires { length periods.now ≤ 8 }
     ensures answer { told result ≡ first_no (rising_questions 5 periods.now) }
 {
-    for k in 1..periods.len() {
-        if periods[k] <= periods[k - 1] {
+    let Some((first, rest)) = periods.split_first() else {
+        return Ok(());
+    };
+    let mut before = *first;
+    for (k, period) in rest.iter().enumerate() {
+        if *period <= before {
             return Err(EntryFault::NotRising {
-                field: FIRST_FIELD + k as u32,
+                field: FIRST_FIELD + 1 + k as u32,
             });
         }
+        before = *period;
     }
     Ok(())
 }

@@ -1,6 +1,5 @@
-ghost use Rattle.std.specs.Prelude.{◌≡◌, ◌≤◌, length};
-ghost use Rattle.books.specs.Meaning.{LeastFrom};
-ghost use Rattle.books.specs.Periods.{OneToEight, StrictlyRising, periods_of};
+ghost use Rattle.std.specs.Prelude.{◌≡◌, ◌≤◌, length, find, nat_le};
+ghost use Rattle.books.specs.Periods.{Lawful, OneToEight, periods_of};
 ghost use Rattle.books.specs.Sets.{is_among};
 
 use crate::list_book::PeriodRow;
@@ -12,40 +11,33 @@ impl PeriodRow {
         ensures len { result.len ≡ length periods.now }
         ensures value { periods_of result ≡ periods.now }
     {
+        let len = periods.len();
         let mut copy = [1; 8];
-        for (k, period) in periods.iter().enumerate() {
-            copy[k] = *period;
-        }
-        PeriodRow {
-            periods: copy,
-            len: periods.len(),
-        }
+        copy[..len].copy_from_slice(periods);
+        PeriodRow { periods: copy, len }
+    }
+
+    // The periods of the row.
+    fn listed(&self) -> &[u32]
+        requires { OneToEight self.now }
+        ensures { result.now ≡ periods_of self.now }
+    {
+        &self.periods[..self.len]
     }
 
     // Whether the period is one of the row's.
     pub(super) fn holds(&self, period: u32) -> bool
-        requires { OneToEight self.now }
+        requires { Lawful self.now }
         ensures value { result ≡ is_among (periods_of self.now) period }
     {
-        for k in 0..self.len {
-            if self.periods[k] == period {
-                return true;
-            }
-        }
-        false
+        self.listed().contains(&period)
     }
 
-    // The row's least period at or above `from`: the first that is, since they rise.
+    // The row's first period at or above `from`, which is the least, since they rise.
     pub(super) fn next_from(&self, from: u32) -> Option<u32>
-        requires counted { OneToEight self.now }
-        requires rising { StrictlyRising self.now }
-        ensures least { LeastFrom (is_among (periods_of self.now)) from result }
+        requires { Lawful self.now }
+        ensures value { result ≡ find (λ p. nat_le from p) (periods_of self.now) }
     {
-        for k in 0..self.len {
-            if self.periods[k] >= from {
-                return Some(self.periods[k]);
-            }
-        }
-        None
+        self.listed().iter().copied().find(|period| *period >= from)
     }
 }

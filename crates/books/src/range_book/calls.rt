@@ -1,6 +1,8 @@
-ghost use Rattle.std.specs.Prelude.{◌≡◌, MatchResult};
+ghost use Rattle.std.specs.Prelude.{◌≡◌, ◌<◌, MatchResult};
+ghost use Rattle.std.specs.Option.{SomeIff};
 ghost use Rattle.books.specs.Questions.{range_questions, first_no, told};
-ghost use Rattle.books.specs.Sets.{Adds, Empty, ranges_of, is_within};
+ghost use Rattle.books.specs.Sets.{Adds, Empty, range_at, ranges_of, is_within};
+ghost use Rattle.std.proofs.Common.{rules};
 
 use crate::book::Book;
 use crate::fault::EntryFault;
@@ -39,35 +41,32 @@ impl RangeBook {
         self.used += 1;
         Ok(())
     }
+
+    // The range of a task, if there is such a task.
+    fn range(&self, task: u32) -> Option<PeriodRange>
+        ensures { SomeIff result (task < self.now.used) (range_at self.now task) }
+    {
+        self.ranges[..self.used].get(task as usize).copied()
+    }
 }
 
 impl Book for RangeBook {
     ghost means = { ranges_of };
+
+    ghost fair = { Prim.search rules };
 
     fn count(&self) -> u32 {
         self.used as u32
     }
 
     fn allows(&self, task: u32, period: u32) -> bool {
-        let task = task as usize;
-        if task >= self.used {
-            return false;
-        }
-        let range = self.ranges[task];
-        range.low <= period && period <= range.high
+        self.range(task)
+            .is_some_and(|range| (range.low..=range.high).contains(&period))
     }
 
     fn next_allowed(&self, task: u32, from: u32) -> Option<u32> {
-        let task = task as usize;
-        if task >= self.used {
-            return None;
-        }
-        let range = self.ranges[task];
+        let range = self.range(task)?;
         let least = from.max(range.low);
-        if least <= range.high {
-            Some(least)
-        } else {
-            None
-        }
+        (least <= range.high).then_some(least)
     }
 }

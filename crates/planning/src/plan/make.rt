@@ -1,6 +1,5 @@
 // The planning call.
 
-ghost use Rattle.std.specs.Prelude.{◌≡◌, ◌≤◌};
 ghost use Rattle.planning.specs.Plans.{PlanAnswered};
 
 use crate::job::Figures;
@@ -8,7 +7,7 @@ use crate::periods::{chosen_periods, seek_charged};
 use crate::plan::Plan;
 use crate::refusal::Refusal;
 use crate::sizes::largest_size;
-use crate::windows::{count_jobs, list_jobs};
+use crate::windows::count_jobs;
 use crate::workspace::Workspace;
 use books::Book;
 
@@ -25,28 +24,26 @@ pub fn make_plan<B: Book>(
 {
     let hyperperiod = seek_charged(book, figures, ceiling)?;
     let periods = chosen_periods(book, hyperperiod);
-    let tasks = book.count();
-    let jobs = count_jobs(hyperperiod, &periods, tasks);
+    let jobs = count_jobs(hyperperiod, periods.as_slice());
     if jobs > 1024 {
         return Err(Refusal::TooManyJobs);
     }
-    list_jobs(
+    space
+        .jobs
+        .list_anew(hyperperiod, periods.as_slice(), figures);
+    let Some(frame_size) = largest_size(
         hyperperiod,
-        &periods,
-        figures,
-        tasks,
-        &mut space.jobs,
-        &mut space.firsts,
-    );
-    let Some(frame_size) = largest_size(hyperperiod, space) else {
+        &space.jobs,
+        &mut space.table,
+        &mut space.slots,
+    ) else {
         return Err(Refusal::EverySizeFails);
     };
     plan.hyperperiod = hyperperiod;
     plan.frame_size = frame_size;
     plan.frames = hyperperiod / frame_size;
-    plan.tasks = tasks;
     plan.periods = periods;
     plan.jobs = jobs;
-    std::mem::swap(&mut plan.rows, &mut space.rows);
+    std::mem::swap(&mut plan.rows, &mut space.table.rows);
     Ok(())
 }

@@ -1,10 +1,11 @@
 // Making a plan's memory, and reading a plan.
 
-ghost use Rattle.std.specs.Prelude.{◌≡◌, ◌≤◌, length, take, IfOk, if◌then◌else◌, Some, None, nat_lt};
-ghost use Rattle.planning.specs.Plans.{Nothing, period_in, row_in};
+ghost use Rattle.std.specs.Prelude.{◌≡◌, length, IfOk, if◌then◌else◌, Some, None, nat_lt};
+ghost use Rattle.planning.specs.Plans.{Nothing, period_in, row_in, tasks_in};
 
 use crate::job::Row;
 use crate::plan::Plan;
+use arrayvec::ArrayVec;
 use std::alloc::{AllocError, Global};
 
 impl Plan {
@@ -17,8 +18,7 @@ impl Plan {
             hyperperiod: 0,
             frame_size: 0,
             frames: 0,
-            tasks: 0,
-            periods: [0; 16],
+            periods: ArrayVec::new(),
             jobs: 0,
             rows,
         })
@@ -52,20 +52,17 @@ impl Plan {
 
     // The chosen period of a task; none beyond the last task.
     pub fn period(&self, task: u32) -> Option<u32>
-        ensures { result ≡ (if nat_lt task self.now.tasks then Some (period_in self.now task) else None) }
+        ensures { result ≡ (if nat_lt task (tasks_in self.now) then Some (period_in self.now task) else None) }
     {
-        if task >= self.tasks {
-            return None;
-        }
-        Some(self.periods[task as usize])
+        self.periods().get(task as usize).copied()
     }
 
     // The chosen periods, task by task.
     pub fn periods(&self) -> &[u32]
-        ensures first { result.now ≡ take self.now.tasks self.now.periods }
-        ensures count { length result.now ≡ self.now.tasks }
+        ensures first { result.now ≡ self.now.periods.items }
+        ensures count { length result.now ≡ tasks_in self.now }
     {
-        &self.periods[..self.tasks as usize]
+        self.periods.as_slice()
     }
 
     // How many rows the table has.
@@ -79,10 +76,7 @@ impl Plan {
     pub fn row(&self, index: usize) -> Option<Row>
         ensures { result ≡ row_in self.now.rows.items index }
     {
-        if index >= self.rows.len() {
-            return None;
-        }
-        Some(self.rows[index])
+        self.rows.get(index).copied()
     }
 
     // The rows of the table, frame by frame.

@@ -1,12 +1,14 @@
 // The four calls that drive a planner.
 
-ghost use Rattle.std.specs.Prelude.{◌≡◌, ◌<◌, IfOk};
+ghost use Rattle.std.specs.Prelude.{◌≡◌, IfOk};
 ghost use Rattle.run.specs.Account.{empty};
-ghost use Rattle.run.specs.Agrees.{Agrees, Carries, Ends, charged, planned, rewound, came, upcoming_in};
+ghost use Rattle.run.specs.Agrees.{Agrees, Carries, charged, planned, rewound, came, upcoming_in};
+ghost use Rattle.run.specs.Right.{is_figure as figure_allowed};
 ghost use Rattle.run.specs.declared.call.Call.{Call};
 
 use crate::event::Event;
 use crate::planner::Planner;
+use crate::planner::place::Place;
 use crate::refusal::Refusal;
 use books::Book;
 use planning::{Figures, Plan, Row, Workspace, make_plan};
@@ -23,6 +25,13 @@ pub struct Granted {
     pub rows: u32,
 }
 
+// A cost or a deadline is from 1 to 200,000.
+fn is_figure(number: u32) -> bool
+    ensures { result ≡ figure_allowed number }
+{
+    (1..=200_000).contains(&number)
+}
+
 impl<B: Book> Planner<B> {
     // A planner on a book, with no charges and no plan.
     pub fn new(heap: Global, book: B) -> Result<Planner<B>, AllocError>
@@ -36,11 +45,8 @@ impl<B: Book> Planner<B> {
         Ok(Planner {
             book,
             figures: [None; 16],
-            stands: false,
             plan,
-            repetition: 0,
-            frame: 0,
-            row: 0,
+            place: None,
             space,
         })
     }
@@ -52,14 +58,14 @@ impl<B: Book> Planner<B> {
         if task >= self.book.count() || task >= 16 {
             return Err(Refusal::TaskOutOfRange { task });
         }
-        if cost < 1 || cost > 200_000 {
+        if !is_figure(cost) {
             return Err(Refusal::CostOutOfRange { task });
         }
-        if deadline < 1 || deadline > 200_000 {
+        if !is_figure(deadline) {
             return Err(Refusal::DeadlineOutOfRange { task });
         }
         self.figures[task as usize] = Some(Figures { cost, deadline });
-        self.stands = false;
+        self.place = None;
         Ok(())
     }
 
@@ -74,10 +80,7 @@ impl<B: Book> Planner<B> {
             &mut self.space,
             &mut self.plan,
         )?;
-        self.stands = true;
-        self.repetition = 0;
-        self.frame = 0;
-        self.row = 0;
+        self.place = Some(Place::START);
         Ok(Granted {
             hyperperiod: self.plan.hyperperiod(),
             frame_size: self.plan.frame_size(),
@@ -90,12 +93,8 @@ impl<B: Book> Planner<B> {
     pub fn rewind(&mut self) -> Result<(), Refusal>
         ensures { Carries B.Book.means self.old self.new Call.Rewind (rewound result) }
     {
-        if !self.stands {
-            return Err(Refusal::NoPlan);
-        }
-        self.repetition = 0;
-        self.frame = 0;
-        self.row = 0;
+        let place = self.place.as_mut().ok_or(Refusal::NoPlan)?;
+        *place = Place::START;
         Ok(())
     }
 
@@ -103,54 +102,40 @@ impl<B: Book> Planner<B> {
     pub fn next(&mut self) -> Result<Event, Refusal>
         ensures { Carries B.Book.means self.old self.new Call.Next (came result) }
     {
-        if !self.stands {
-            return Err(Refusal::NoPlan);
-        }
-        if self.repetition >= REPETITIONS {
+        let place = self.place.ok_or(Refusal::NoPlan)?;
+        if place.repetition >= REPETITIONS {
             return Err(Refusal::Ended);
         }
-        match self.upcoming() {
+        match self.upcoming(place) {
             Some(row) => {
-                self.row += 1;
+                self.place = Some(Place {
+                    row: place.row + 1,
+                    ..place
+                });
                 Ok(Event::Slice {
-                    repetition: self.repetition,
+                    repetition: place.repetition,
                     frame: row.frame,
                     task: row.task,
                     job: row.job,
                     length: row.length,
                 })
             }
-            None => Ok(self.end_frame()),
+            None => {
+                self.place = Some(place.after_frame(self.plan.frames()));
+                Ok(Event::FrameEnd {
+                    repetition: place.repetition,
+                    frame: place.frame,
+                })
+            }
         }
     }
 
     // The row that comes next, if it is one of the frame.
-    fn upcoming(&self) -> Option<Row>
-        ensures { result ≡ upcoming_in self.now.plan.rows.items self.now.frame self.now.row }
+    fn upcoming(&self, place: Place) -> Option<Row>
+        ensures { result ≡ upcoming_in self.now.plan.rows.items place.frame place.row }
     {
-        let row = self.plan.row(self.row)?;
-        if row.frame == self.frame {
-            Some(row)
-        } else {
-            None
-        }
-    }
-
-    // Ends the frame, and with the last frame the repetition.
-    fn end_frame(&mut self) -> Event
-        requires { self.old.repetition < 1000000 }
-        ensures { Ends self.old self.new result }
-    {
-        let event = Event::FrameEnd {
-            repetition: self.repetition,
-            frame: self.frame,
-        };
-        self.frame = self.frame.saturating_add(1);
-        if self.frame >= self.plan.frames() {
-            self.frame = 0;
-            self.row = 0;
-            self.repetition += 1;
-        }
-        event
+        self.plan
+            .row(place.row)
+            .filter(|row| row.frame == place.frame)
     }
 }

@@ -16,27 +16,16 @@ impl<B: Book> Planner<B> {
                 task,
                 cost,
                 deadline,
-            } => match self.charge(task, cost, deadline) {
-                Ok(()) => Answer::Charged,
-                Err(refusal) => Answer::Refused(refusal),
-            },
-            Call::Plan { ceiling } => match self.plan(ceiling) {
-                Ok(granted) => Answer::Planned {
-                    hyperperiod: granted.hyperperiod,
-                    frame_size: granted.frame_size,
-                    jobs: granted.jobs,
-                    rows: granted.rows,
-                },
-                Err(refusal) => Answer::Refused(refusal),
-            },
-            Call::Rewind => match self.rewind() {
-                Ok(()) => Answer::Rewound,
-                Err(refusal) => Answer::Refused(refusal),
-            },
-            Call::Next => match self.next() {
-                Ok(event) => Answer::Came(event),
-                Err(refusal) => Answer::Refused(refusal),
-            },
+            } => self
+                .charge(task, cost, deadline)
+                .map_or_else(Answer::Refused, |()| Answer::Charged),
+            Call::Plan { ceiling } => self
+                .plan(ceiling)
+                .map_or_else(Answer::Refused, Answer::Planned),
+            Call::Rewind => self
+                .rewind()
+                .map_or_else(Answer::Refused, |()| Answer::Rewound),
+            Call::Next => self.next().map_or_else(Answer::Refused, Answer::Came),
             Call::Period { task } => Answer::PeriodIs(self.period(task)),
             Call::RowAt { index } => Answer::RowIs(self.row(index)),
         }

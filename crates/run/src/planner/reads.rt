@@ -14,26 +14,20 @@ impl<B: Book> Planner<B> {
     pub fn standing(&self) -> Option<&Plan>
         ensures { (a : Account) → Agrees B.Book.means self.now a → StandingRead (B.Book.means self.now.book) a.plan (option_map (λ x. x.now) result) }
     {
-        if self.stands { Some(&self.plan) } else { None }
+        self.place.map(|_| &self.plan)
     }
 
     // The chosen period of a task; none without a plan, or beyond the last task.
     pub fn period(&self, task: u32) -> Option<u32>
         ensures { Carries B.Book.means self.now self.now (Call.Period task) (period_read result) }
     {
-        if !self.stands {
-            return None;
-        }
-        self.plan.period(task)
+        self.standing()?.period(task)
     }
 
     // A row of the table; none without a plan, or beyond the last row.
     pub fn row(&self, index: u32) -> Option<Row>
         ensures { Carries B.Book.means self.now self.now (Call.RowAt index) (row_read result) }
     {
-        if !self.stands {
-            return None;
-        }
-        self.plan.row(index as usize)
+        self.standing()?.row(index as usize)
     }
 }

@@ -8,18 +8,18 @@ use planning::Figures;
 impl<B: Book> Tasks<B> {
     // How many tasks there are.
     pub fn count(&self) -> usize
-        ensures { result ≡ self.now.count }
+        ensures { result ≡ length (figures_held self.now) }
     {
-        self.count
+        self.figures.len()
     }
 
     // The figures of the tasks, in their order.
     pub fn figures(&self) -> &[Figures]
         ensures value { result.now ≡ figures_held self.now }
-        ensures len { length result.now ≡ self.now.count }
+        ensures len { length result.now ≡ length (figures_held self.now) }
         ensures few { length result.now ≤ 16 }
     {
-        &self.figures[..self.count]
+        self.figures.as_slice()
     }
 
     // The book of the tasks' periods.

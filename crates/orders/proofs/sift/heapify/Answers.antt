@@ -1,6 +1,5 @@
-use Rattle.std.proofs.Common.{length, arith}
+use Rattle.std.proofs.Common.{arith}
 use Rattle.std.proofs.lemmas.List.Sorted.{IsPermutation-trans}
-use Rattle.orders.proofs.Parents.{sound_from_heaped}
 use Rattle.orders.proofs.sift.heapify.Goals as goal
 
 pub loop-root-preserved : goal.loop-root-preserved
@@ -11,10 +10,3 @@ loop-root-preserved g c = (
       (λ q i e l a b i'. c.loop-root.invariant.2 q i e (omega arith) a b (omega arith))
       p k d low from to (omega arith),
 )
-
-pub returns : goal.returns
-returns g c = record {
-  shuffled = c.loop-root.invariant.1;
-  sound = sound_from_heaped g.T.Ranked.le c.loop-root.s (length c.args.s.now) c.loop-root.invariant.0
-      (λ p k d low. c.loop-root.invariant.2 p k d (omega arith));
-}

@@ -9,6 +9,3 @@ invariant-loop-root g l =
     (length l.s ≡ length l.initial.s)
     × IsPermutation l.initial.s l.s
     × Heaped g.T.Ranked.le l.s l.root (length l.initial.s)
-
-abbrev pub decreases-loop-root : goal.decreases-loop-root
-decreases-loop-root g l = l.root

@@ -1,15 +1,7 @@
 use Rattle.std.proofs.Common.{length, sym, arith}
 use Rattle.std.proofs.lemmas.List.Sorted.{IsPermutation-trans}
-use Rattle.orders.proofs.Sinking.{sink_rests, sink_steps}
+use Rattle.orders.proofs.Sinking.{sink_steps}
 use Rattle.orders.proofs.sift.sift_down.Goals as goal
-
-pub returns-then-at_most_at : goal.returns-then-at_most_at
-returns-then-at_most_at g c = record {
-  shuffled = c.loop-child.invariant.2;
-  heaped = λ h. sink_rests g.T.Ranked.le g.met.T.Ranked.total c.loop-child.s c.args.root c.loop-child.at
-      c.in-Some.child (length c.args.s.now) c.loop-child.invariant.1 c.in-Some.ensures
-      (λ d. sym (c.if-at_most_at.ensures d)) (c.loop-child.invariant.3 h);
-}
 
 pub loop-child-preserved : goal.loop-child-preserved
 loop-child-preserved g c =

@@ -1,28 +1,10 @@
 use Rattle.std.proofs.Common.{◌-◌, ◌/◌, length, sym, refl, arith}
 use Rattle.std.proofs.lemmas.List.Sorted.{IsPermutation-refl, IsPermutation-trans}
-use Rattle.orders.proofs.Rising.{rise_begins, rise_rests, rise_steps, rise_tops}
+use Rattle.orders.proofs.Rising.{rise_begins, rise_steps}
 use Rattle.orders.proofs.sift.sift_up.Goals as goal
 
 pub loop-at-init : goal.loop-at-init
-loop-at-init g c = (
-  omega arith,
-  refl,
-  IsPermutation-refl _,
-  rise_begins g.T.Ranked.le c.args.s.now _ _ refl (omega arith),
-)
-
-pub returns-then-at_most_at : goal.returns-then-at_most_at
-returns-then-at_most_at g c = record {
-  shuffled = c.loop-at.invariant.2;
-  sound = λ h. rise_rests g.T.Ranked.le c.loop-at.s ((c.loop-at.at - 1) / 2) c.loop-at.at (length c.args.s.now)
-      (omega arith) (omega arith) (omega arith) (λ d. sym (c.if-at_most_at.ensures d)) (c.loop-at.invariant.3 h);
-}
-
-pub returns : goal.returns
-returns g c = record {
-  shuffled = c.loop-at.invariant.2;
-  sound = λ h. rise_tops g.T.Ranked.le c.loop-at.s c.loop-at.at (length c.args.s.now) (omega arith) (omega arith) (c.loop-at.invariant.3 h);
-}
+loop-at-init g c = (omega arith, refl, IsPermutation-refl _, rise_begins g.T.Ranked.le c.args.s.now _ _ refl (omega arith))
 
 pub loop-at-preserved : goal.loop-at-preserved
 loop-at-preserved g c =

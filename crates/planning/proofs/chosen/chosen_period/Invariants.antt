@@ -1,11 +1,8 @@
-use Rattle.std.proofs.Common.{ℕ, ◌+◌, ◌-◌, ◌*◌, ◌≤◌}
+use Rattle.std.proofs.Common.{ℕ, ◌*◌, ◌≤◌}
 use Rattle.planning.specs.Hyperperiod.{AllowedDivisor}
 use Rattle.planning.proofs.chosen.chosen_period.Given as goal
 
 -- no allowed divisor has a quotient below `times`
 abbrev pub invariant-loop-times : goal.invariant-loop-times
 invariant-loop-times g l =
-    (1 ≤ l.times) × ((q : ℕ) → AllowedDivisor (g.B.Book.means l.book) l.number l.task q → l.times * q ≤ l.number)
-
-abbrev pub decreases-loop-times : goal.decreases-loop-times
-decreases-loop-times g l = l.most + 1 - l.times
+    (q : ℕ) → AllowedDivisor (g.B.Book.means l.book) l.number l.task q → l.times * q ≤ l.number

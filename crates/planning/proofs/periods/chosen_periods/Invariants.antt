@@ -1,7 +1,8 @@
-use Rattle.std.proofs.Common.{◌≡◌, ℕ, ◌<◌, length, get_or}
+use Rattle.std.proofs.Common.{◌≡◌, ℕ, ◌<◌, get_or}
+use Rattle.arrayvec.specs.ArrayVec.{array_vec_len}
 use Rattle.planning.specs.Hyperperiod.{Chosen}
 use Rattle.planning.proofs.periods.chosen_periods.Given as goal
 
 abbrev pub invariant-loop-task : goal.invariant-loop-task
 invariant-loop-task g l =
-    (length l.periods ≡ 16) × ((t : ℕ) → t < l.task → Chosen (g.B.Book.means l.book) l.number t (get_or l.periods t 0))
+    (array_vec_len l.periods ≡ l.task) × ((t : ℕ) → t < l.task → Chosen (g.B.Book.means l.book) l.number t (get_or l.periods.items t 0))

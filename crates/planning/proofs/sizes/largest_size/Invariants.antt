@@ -6,5 +6,4 @@ use Rattle.planning.proofs.sizes.largest_size.Given as goal
 -- every size that was tried is overloaded
 abbrev pub invariant-loop-count : goal.invariant-loop-count
 invariant-loop-count l =
-    (l.space.jobs ≡ l.initial.space.jobs) × (l.space.firsts ≡ l.initial.space.firsts)
-    × ((c : ℕ) → 1 ≤ c → c < l.count → l.hyperperiod % c ≡ 0 → (a : ℕ) × (b : ℕ) × Overloaded (placed (vec_items l.initial.space.jobs)) (record { count = c; size = l.hyperperiod / c }) a b)
+    (c : ℕ) → 1 ≤ c → c < l.count → l.hyperperiod % c ≡ 0 → (a : ℕ) × (b : ℕ) × Overloaded (placed (vec_items l.jobs.list)) (record { count = c; size = l.hyperperiod / c }) a b

@@ -6,8 +6,9 @@ use Rattle.planning.proofs.windows.count_jobs.Goals as goal
 pub overflow_add-count : goal.overflow_add-count
 overflow_add-count c =
     let period : ℕ → ℕ = λ t. get_or c.args.periods.now t 0 in
-    omega (arith, jobs_at_most c.args.hyperperiod c.loop-task.task period c.requires.range.1, div-le_self c.args.hyperperiod (period c.loop-task.task))
+    let task = c.loop-period.period-index in
+    omega (arith, jobs_at_most c.args.hyperperiod task period c.requires.range.1, div-le_self c.args.hyperperiod (period task))
 
-pub loop-task-preserved : goal.loop-task-preserved
-loop-task-preserved c =
-    omega (arith, sum_more c.loop-task.task (λ t. c.args.hyperperiod / get_or c.args.periods.now t 0))
+pub loop-period-preserved : goal.loop-period-preserved
+loop-period-preserved c =
+    omega (arith, sum_more c.loop-period.period-index (λ t. c.args.hyperperiod / get_or c.args.periods.now t 0))

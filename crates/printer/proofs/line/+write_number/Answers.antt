@@ -21,9 +21,6 @@ write_number-at-requires t c =
 pub bounds-out-at : goal.bounds-out-at
 bounds-out-at t c = omega (arith, tenth_length c.args.n c.if-n-lt10.false (omega arith))
 
-pub overflow_add-result : goal.overflow_add-result
-overflow_add-result t c = omega (arith, bounds-out-at t c)
-
 pub returns : goal.returns
 returns t c =
     let out = c.args.out.now in

@@ -6,8 +6,8 @@ use Rattle.printer.specs.Text.{numbers_text}
 use Rattle.printer.proofs.Writing.{byte_put, part_put}
 use Rattle.printer.proofs.line.write_line.Goals as goal
 
-pub returns : goal.returns
-returns c =
+pub returns-clause-put : goal.returns-clause-put
+returns-clause-put c =
     let out = c.args.out.now in
     let word = c.args.word.now in
     let numbers = numbers_text c.args.numbers.now in
@@ -17,7 +17,4 @@ returns c =
     let n = c.write_numbers-at.result in
     let word_put : Puts word out first at = record { count = refl; behind = ap (λ w. w ++ drop at out) c.copy_from_slice.ensures.after } in
     let whole : Puts (word ++ numbers) out second (at + n) = part_put word numbers out first c.write_numbers-at.new.out at n word_put c.write_numbers-at.ensures in
-    record {
-      put = subst (λ text. Puts text out (set second (at + n) 10) (at + n + 1)) (append_assoc word numbers (10 ∷ [])) (byte_put (word ++ numbers) out second (at + n) 10 whole (omega arith));
-      parts = omega arith;
-    }
+    subst (λ text. Puts text out (set second (at + n) 10) (at + n + 1)) (append_assoc word numbers (10 ∷ [])) (byte_put (word ++ numbers) out second (at + n) 10 whole (omega arith))

@@ -1,21 +1,18 @@
-use Rattle.std.proofs.Common.{◌≡◌, [], get_or, sym, ◌∙◌, rules, below_more}
-use Rattle.std.proofs.lemmas.Slice.Eq.{slice_eq-Decides}
-use Rattle.std.proofs.lemmas.Bool.{both_ways}
+use Rattle.std.proofs.Common.{◌-◌, rules}
+use borrow.Author.Tests.{tests}
+use Rattle.std.specs.Str.{bytes_eq}
+use Rattle.std.proofs.lemmas.Iterator.{YieldsList-from_map_by, YieldsList-from_take}
+use Rattle.std.proofs.lemmas.Iterator.Search.{any_from_yields_List}
+use Rattle.std.proofs.lemmas.Iterator.Consumers.{YieldsList-at}
 use Rattle.sheets.specs.Lines.{name_in}
-use Rattle.sheets.specs.Text.{parts}
-use Rattle.sheets.proofs.TakenNames.{not_taken, taken_at}
+use Rattle.sheets.proofs.PartsSplit.{parts_yielded}
 use Rattle.sheets.proofs.names.is_taken.Goals as goal
-use Rattle.std.proofs.lemmas.Bool.Decides.{Decides-eqb}
-
-pub returns-then-eq : goal.returns-then-eq
-returns-then-eq c =
-    let same = (slice_eq-Decides Decides-eqb c.name_on.result.now c.args.name.now c.eq.result c.eq.ensures).0 c.if-eq.true in
-    sym (taken_at c.args.name.now (parts 10 c.args.sheet.now) c.args.lines c.loop-before.before (search rules) c.requires (sym c.name_on.ensures ∙ same))
-
-pub loop-before-preserved : goal.loop-before-preserved
-loop-before-preserved c =
-    below_more (λ k. name_in (get_or (parts 10 c.args.sheet.now) k []) ≡ c.args.name.now → ⊥) c.loop-before.before c.loop-before.invariant
-    (λ same. both_ways c.eq.result c.if-eq.false ((slice_eq-Decides Decides-eqb c.name_on.result.now c.args.name.now c.eq.result c.eq.ensures).1 (c.name_on.ensures ∙ same)))
 
 pub returns : goal.returns
-returns c = sym (not_taken c.args.name.now (parts 10 c.args.sheet.now) c.args.lines (λ k h. c.loop-before.invariant k (search rules)))
+returns c =
+    let split = c.split.ensures in
+    any_from_yields_List (λ earlier. bytes_eq c.args.name.now earlier) _ _ c.any.result c.any.ensures.ran
+    (YieldsList-from_map_by _ (λ x. x.now) name_in (YieldsList-at c.map.ensures.source
+    (YieldsList-from_take (c.args.line.number - 1) (YieldsList-at c.take.ensures.source
+    (parts_yielded _ 10 c.args.line.sheet.now split.rest split.done split.closure (λ x b q k. search (rules, tests)))) c.take.ensures.count))
+    c.map.ensures.closure (λ x r q k. search rules)) (λ x b q k. search (rules, tests))

@@ -1,19 +1,13 @@
-use Rattle.std.proofs.Common.{◌≡◌, suc, ◌+◌, ◌-◌, [], ◌∷◌, get_or, arith}
-use Rattle.std.proofs.lemmas.List.{get_or_past}
+use Rattle.std.proofs.Common.{ap, refl, ◌∙◌, rules}
+use borrow.Author.Tests.{tests}
+use Rattle.std.proofs.lemmas.Iterator.Consumers.{nth_from_yields_List}
 use Rattle.sheets.specs.Text.{parts}
+use Rattle.sheets.proofs.PartsSplit.{found_or_none, parts_yielded}
 use Rattle.sheets.proofs.text.part.Goals as goal
 
-pub returns-in-None : goal.returns-in-None
-returns-in-None c =
-    let past = get_or_past (c.loop.rest.now ∷ []) (c.args.before - c.loop.counter) [] (omega arith) in
-    let only = c.in-None.ensures in
-    cc
-
-pub loop-preserved : goal.loop-preserved
-loop-preserved c =
-    let left = c.args.before - (c.loop.counter + 1) in
-    let rest = parts c.args.separator c.in-Some.after.now in
-    let more : c.args.before - c.loop.counter ≡ suc left = omega arith in
-    let step : get_or (c.in-Some.field-0-0.now ∷ rest) (c.args.before - c.loop.counter) [] ≡ get_or rest left [] = rw more in
-    let cut = c.in-Some.ensures.0 in
-    cc
+pub returns : goal.returns
+returns c =
+    let split = c.split.ensures in
+    ap (λ x. x.now) c.unwrap_or.ensures
+    ∙ found_or_none (parts c.args.separator c.args.text.now) c.args.before c.nth.result _ refl
+    (nth_from_yields_List c.nth.result _ c.args.before c.nth.ensures.ran (parts_yielded _ c.args.separator c.args.text.now split.rest split.done split.closure (λ x b q k. search (rules, tests))))

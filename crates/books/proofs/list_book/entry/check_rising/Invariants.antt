@@ -1,8 +1,6 @@
-use Rattle.std.proofs.Common.{◌≡◌, ◌+◌, ◌-◌, get_or, drop}
+use Rattle.std.proofs.Common.{◌≡◌, ◌+◌, drop}
 use Rattle.books.specs.Questions.{first_no, above_questions, rising_questions}
 use Rattle.books.proofs.list_book.entry.check_rising.Given as goal
 
 abbrev pub invariant-loop-k : goal.invariant-loop-k
-invariant-loop-k l =
-    first_no (above_questions (5 + l.k) (get_or l.periods (l.k - 1) 0) (drop l.k l.periods))
-    ≡ first_no (rising_questions 5 l.periods)
+invariant-loop-k l = first_no (above_questions (6 + l.k) l.before (drop l.k l.rest)) ≡ first_no (rising_questions 5 l.periods)

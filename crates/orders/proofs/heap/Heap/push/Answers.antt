@@ -1,22 +1,40 @@
-use Rattle.std.proofs.Common.{◌+◌, ◌-◌, sym, refl, arith}
-use Rattle.std.proofs.lemmas.List.{length-take}
-use Rattle.std.proofs.lemmas.Bool.{lt-ltb}
-use Rattle.orders.proofs.Pushed.{pushed_held, pushed_rest, pushed_room, pushed_length, pushed_sound}
+use Rattle.std.proofs.Common.{◌≡◌, ◌+◌, ◌-◌, ◌<◌, ℕ, Bool, List, [], ◌∷◌, ◌++◌, length, take, set, sym, ap, ◌∙◌, subst, arith}
+use Rattle.std.specs.List.Sorted.{IsPermutation}
+use Rattle.std.proofs.lemmas.Grind.{common_steps, take-set_at}
+use Rattle.std.proofs.lemmas.List.{length-set, length-take, take_at}
+use Rattle.std.proofs.lemmas.List.Sorted.{length_permutation, IsPermutation-sym, IsPermutation-to_front, IsPermutation-trans}
+use Rattle.orders.specs.Order.{Sound}
 use Rattle.orders.proofs.heap.Heap.push.Goals as goal
 
-pub returns : goal.returns
-returns g c =
-    let xs = c.args.self.now.slots.now in
-    let ys = c.sift_up.new.s in
-    let x = c.args.x in
-    let len = c.args.self.now.len in
-    let arranged = c.sift_up.ensures.shuffled in
-    record {
-      full = sym (lt-ltb _ _ (simp length-take (omega arith)));
-      held = pushed_held xs ys x len (len + 1 - 0) (omega arith) c.if-self-at.false arranged;
-      rest = pushed_rest xs ys x len (len + 1 - 0) (omega arith) c.if-self-at.false arranged;
-      len = pushed_length xs ys x len (len + 1 - 0) (omega arith) c.if-self-at.false arranged;
-      room = pushed_room xs ys x len (len + 1 - 0) (omega arith) c.if-self-at.false arranged;
-      sound = pushed_sound xs ys x len (len + 1 - 0) (omega arith) c.if-self-at.false arranged g.T.Ranked.le c.sift_up.ensures.sound;
-      lender = refl;
-    }
+module _ {X : Type 0} (xs ys rest : List X) (x : X) (len m : ℕ) (is : m ≡ len + 1) (space : len < length xs) (arranged : IsPermutation (take m (set xs len x)) ys) where
+  filled : take m (set xs len x) ≡ take len xs ++ x ∷ []
+  filled = take-set_at xs len m x is space
+
+  front : take (len + 1) (ys ++ rest) ≡ ys
+  front = take_at ys rest (len + 1) (length_permutation _ _ arranged ∙ simp (length-take, length-set) (omega arith))
+
+  -- What was held, with x behind it, is what is held now.
+  stored : IsPermutation (x ∷ take len xs) (take (len + 1) (ys ++ rest))
+  stored =
+      rw front
+      (IsPermutation-trans _ _ _ (IsPermutation-sym _ _ (IsPermutation-to_front (take len xs) x)) (rw filled at arranged))
+
+  -- Where x rises among what was in heap order, all is.
+  risen : (le : X → X → Bool) → (Sound le (take (length (take m (set xs len x)) - 1) (take m (set xs len x))) → Sound le ys) → Sound le (take len xs) → Sound le (take (len + 1) (ys ++ rest))
+  risen le rises sound =
+      let count : length (take m (set xs len x)) - 1 ≡ len = simp (length-take, length-set) (omega arith) in
+      let held : length (take len xs) ≡ len = simp length-take (omega arith) in
+      let before : take (length (take m (set xs len x)) - 1) (take m (set xs len x)) ≡ take len xs =
+      ap (λ k. take k (take m (set xs len x))) count ∙ ap (take len) filled ∙ take_at (take len xs) (x ∷ []) len held in
+      rw front (rises (subst (Sound le) (sym before) sound))
+
+pub returns-clause-held : goal.returns-clause-held
+returns-clause-held g c = stored c.args.self.now.slots.now c.sift_up.new.s _ c.args.x c.args.self.now.len _ (omega arith) c.if-self-at.false c.sift_up.ensures.shuffled
+
+pub invariant_of-self-2-clause-few : goal.invariant_of-self-2-clause-few
+invariant_of-self-2-clause-few g c = grind (arith, common_steps)
+
+pub invariant_of-self-2-clause-sound : goal.invariant_of-self-2-clause-sound
+invariant_of-self-2-clause-sound g c =
+    risen c.args.self.now.slots.now c.sift_up.new.s _ c.args.x c.args.self.now.len _ (omega arith) c.if-self-at.false c.sift_up.ensures.shuffled
+    g.T.Ranked.le c.sift_up.ensures.sound c.args.self.now.sound

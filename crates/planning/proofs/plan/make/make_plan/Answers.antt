@@ -7,14 +7,14 @@ use Rattle.planning.specs.Windows.{jobs_of}
 use Rattle.planning.proofs.LeastWork.{chosen_least_work}
 use Rattle.planning.proofs.plan.make.make_plan.Given as given
 use Rattle.planning.proofs.plan.make.make_plan.Goals as goal
-use Rattle.planning.proofs.plan.make.make_plan.Goals.{After-count_jobs-jobs, After-list_jobs}
+use Rattle.planning.proofs.plan.make.make_plan.Goals.{After-count_jobs-jobs, After-list_anew}
 
 -- what the book means, and the periods chosen
 abbrev meant : (g : given.Over) → After-count_jobs-jobs g → Meaning
 meant g c = g.B.Book.means c.args.book.now
 
 abbrev period : (g : given.Over) → After-count_jobs-jobs g → ℕ → ℕ
-period g c t = get_or c.chosen_periods-periods.result t 0
+period g c t = get_or c.chosen_periods-periods.result.items t 0
 
 -- questions 4 to 7 got a yes
 prepared : (g : given.Over) (c : After-count_jobs-jobs g) → Prepared (meant g c) c.args.figures.now c.args.ceiling c.in_ok-hyperperiod.hyperperiod (period g c)
@@ -24,13 +24,14 @@ prepared g c =
 
 -- the jobs of all tasks are counted
 counted : (g : given.Over) (c : After-count_jobs-jobs g) → c.count_jobs-jobs.result ≡ jobs_in c.in_ok-hyperperiod.hyperperiod (period g c) (meant g c).count
-counted g c = c.count_jobs-jobs.ensures ∙ ap (jobs_in c.in_ok-hyperperiod.hyperperiod (period g c)) c.count-tasks.ensures.value
+counted g c =
+    (rw c.as_slice.ensures.value at c.count_jobs-jobs.ensures) ∙ ap (jobs_in c.in_ok-hyperperiod.hyperperiod (period g c)) c.chosen_periods-periods.ensures.count
 
 -- the jobs listed are the book's
-listed : (g : given.Over) (c : After-list_jobs g) → vec_items c.list_jobs.new.jobs ≡ book_jobs (g.B.Book.means c.args.book.now) c.args.figures.now c.in_ok-hyperperiod.hyperperiod (λ t. get_or c.chosen_periods-periods.result t 0)
+listed : (g : given.Over) (c : After-list_anew g) → vec_items c.list_anew.new.self.list ≡ book_jobs (g.B.Book.means c.args.book.now) c.args.figures.now c.in_ok-hyperperiod.hyperperiod (λ t. get_or c.chosen_periods-periods.result.items t 0)
 listed g c =
-    c.list_jobs.ensures.jobs
-    ∙ ap (jobs_of c.in_ok-hyperperiod.hyperperiod (λ t. get_or c.chosen_periods-periods.result t 0) (figures_at c.args.figures.now)) c.count-tasks.ensures.value
+    (rw c.as_slice-2.ensures.value at c.list_anew.ensures)
+    ∙ ap (jobs_of c.in_ok-hyperperiod.hyperperiod (λ t. get_or c.chosen_periods-periods.result.items t 0) (figures_at c.args.figures.now)) c.chosen_periods-periods.ensures.count
 
 pub returns-then-jobs-gt1024 : goal.returns-then-jobs-gt1024
 returns-then-jobs-gt1024 g c =
@@ -59,7 +60,7 @@ returns-in_default g c =
           period = period g at;
           prepared = prepared g at;
           few = omega (arith, counted g at);
-          overloaded = rw (listed g (goal.at.returns-in_default g c).After-list_jobs) at c.in_default.ensures.found;
+          overloaded = rw (listed g (goal.at.returns-in_default g c).After-list_anew) at c.in_default.ensures;
         },
       )))),
       refl,
@@ -68,12 +69,12 @@ returns-in_default g c =
 pub returns : goal.returns
 returns g c =
     let at = (goal.at.returns g c).After-count_jobs-jobs in
-    let found = rw (listed g (goal.at.returns g c).After-list_jobs) at c.in-Some.ensures.found in
-    let swapped : vec_items c.swap.new.x ≡ vec_items c.largest_size.new.space.rows = ap vec_items c.swap.ensures.x_after in
+    let found = rw (listed g (goal.at.returns g c).After-list_anew) at c.in-Some.ensures in
+    let swapped : vec_items c.swap.new.x ≡ vec_items c.largest_size.new.table.rows = ap vec_items c.swap.ensures.x_after in
     record {
-      tasks = c.count-tasks.ensures.value;
+      tasks = c.chosen_periods-periods.ensures.count;
       prepared = prepared g at;
-      work = chosen_least_work (meant g at) c.count-tasks.ensures.fair c.in_ok-hyperperiod.hyperperiod (figures_at c.args.figures.now) (period g at) c.chosen_periods-periods.ensures.chosen;
+      work = chosen_least_work (meant g at) (g.met.B.Book.fair c.args.book.now) c.in_ok-hyperperiod.hyperperiod (figures_at c.args.figures.now) (period g at) c.chosen_periods-periods.ensures.chosen;
       jobs = counted g at;
       few = c.if-jobs-gt1024.false;
       size = found.0;

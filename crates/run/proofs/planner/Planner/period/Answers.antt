@@ -6,5 +6,4 @@ pub returns : goal.returns
 returns g c =
     let p = c.args.self.now in
     carries_same g.B.Book.means p _ _ (λ a. refl) (λ a h.
-    rw c.period.ensures
-    (period_found (g.B.Book.means p.book) p.stands p.plan p.repetition p.frame p.row c.if-not-self.false a.plan a.events c.args.task h.standing))
+    rw c.period.ensures (period_found (g.B.Book.means p.book) c.in_ok-standing.field-0.now a.plan c.args.task (c.in_ok-standing.ensures a h)))

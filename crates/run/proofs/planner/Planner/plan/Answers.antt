@@ -19,9 +19,9 @@ returns-in_err-make_plan g c =
     (λ a h.
     record {
       figures = h.figures;
-      standing = subst (λ x. StandsAs m p.stands x p.repetition p.frame p.row a.plan a.events) (sym refused.1) h.standing;
+      standing = subst (λ x. StandsAs m x p.place a.plan a.events) (sym refused.1) h.standing;
     })
-    (record { book = refl; figures = refl; stands = refl; plan = refused.1; repetition = refl; frame = refl; row = refl }))
+    (record { book = refl; figures = refl; plan = refused.1; place = refl }))
 
 pub returns : goal.returns
 returns g c =
@@ -37,10 +37,7 @@ returns g c =
     record {
       figures = h.figures;
       standing = (
-        refl,
-        c.hyperperiod.ensures,
-        c.frame_size.ensures,
-        (c.args.ceiling, subst (λ f. Planned m f c.args.ceiling plan) h.figures made),
+        (c.hyperperiod.ensures, c.frame_size.ensures, (c.args.ceiling, subst (λ f. Planned m f c.args.ceiling plan) h.figures made)),
         plan_begins m p.figures c.args.ceiling plan made,
       );
     })

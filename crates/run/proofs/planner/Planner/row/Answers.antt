@@ -6,5 +6,4 @@ pub returns : goal.returns
 returns g c =
     let p = c.args.self.now in
     carries_same g.B.Book.means p _ _ (λ a. refl) (λ a h.
-    rw c.row.ensures
-    (row_found (g.B.Book.means p.book) p.stands p.plan p.repetition p.frame p.row c.if-not-self.false a.plan a.events c.args.index h.standing))
+    rw c.row.ensures (row_found (g.B.Book.means p.book) c.in_ok-standing.field-0.now a.plan c.args.index (c.in_ok-standing.ensures a h)))
