@@ -38,6 +38,7 @@ fn sheet(rt: &HostRuntime, path: &str) -> io::Result<Vec<u8>> {
         Ok(file) => {
             file.take(MOST).read_to_end(&mut bytes)?;
         }
+        // By hand, since one error of opening is none here: a missing sheet is an empty one.
         Err(error) if error.kind() == ErrorKind::NotFound => {}
         Err(error) => return Err(error),
     }

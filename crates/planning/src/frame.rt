@@ -68,7 +68,8 @@ fn gather(jobs: &JobList, lacks: &[u32], begin: u32, end: u32, slots: &mut [Wait
     ensures held { Holds jobs.now.list.items (waits_at jobs.now.list.items lacks.now begin end) (take result slots.new) }
 {
     let mut count = 0;
-    // By place, since which jobs wait is told by their places; the slots are memory on loan, with a count.
+    // By place, since a job and what it lacks stand at the same place of two lists; the slots are memory
+    // on loan, with a count.
     for (i, job) in jobs.list.iter().enumerate() {
         if waits(*job, lacks[i], begin, end) {
             slots[count] = Waiting {

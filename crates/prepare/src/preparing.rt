@@ -56,7 +56,8 @@ pub fn prepare(
     Ok(granted)
 }
 
-// The tasks of both sheets; the range sheet is read first.
+// The tasks of both sheets; the range sheet is read first. Here and above both come as they are asked: a type
+// for the pair would say no more than they do.
 fn read_both(
     ranges: &[u8],
     lists: &[u8],

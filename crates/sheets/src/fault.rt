@@ -17,7 +17,7 @@ pub enum FieldFault {
 }
 
 // What a fault tells, a match for each part, as the rules write them for those who print it: code matches on
-// the cases. A tuple of all three would name none of them.
+// the cases. Each part is promised by itself.
 impl FieldFault {
     // The number of the question that got a no.
     pub fn number(self) -> u32

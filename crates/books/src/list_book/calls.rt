@@ -75,7 +75,7 @@ impl Book for ListBook {
     }
 
     fn allows(&self, task: u32, period: u32) -> bool {
-        // A match, since a row may only be asked where it is one of the book's.
+        // A match, since `holds` asks that the row is lawful, which a closure does not know of its row.
         match self.row(task) {
             Some(row) => row.holds(period),
             None => false,

@@ -11,7 +11,8 @@ use crate::windows::count_jobs;
 use crate::workspace::Workspace;
 use books::Book;
 
-// Makes the plan of a book and its tasks' figures, under questions 4 to 9. It works in the
+// Makes the plan of a book and its tasks' figures, under questions 4 to 9. Book and ceiling come as they
+// do to `seek`. It works in the
 // workspace and takes no memory; where it is refused, the plan stays as it was.
 pub fn make_plan<B: Book>(
     book: &B,
