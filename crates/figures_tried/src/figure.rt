@@ -12,7 +12,8 @@ pub(crate) enum Periods {
 }
 
 // What is asked: the least hyperperiod with the chosen periods, the numbers of the plan, or the plan
-// with its periods and its table.
+// with its periods and its table. A name and no closure, since a figure is a constant and prints what
+// it asks.
 #[derive(Clone, Copy)]
 pub(crate) enum Asked {
     Hyperperiod,

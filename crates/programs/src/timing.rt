@@ -6,7 +6,8 @@ use std::io;
 use std::io::{Eprint, Print};
 use std::time::{Clock, Instant};
 
-// What the work answers, and how many microseconds it took.
+// What the work answers, and how many microseconds it took. It asks that the work may be called, which every
+// closure with no `requires` of its own meets.
 pub fn timed<T: Drop, F: FnOnce() -> T>(clock: &impl Clock, work: F) -> io::Result<(T, u128)>
     requires { F.IsAlwaysCallable work }
     ensures { IfOk result (λ r. F.post work r.0) }
@@ -18,7 +19,7 @@ pub fn timed<T: Drop, F: FnOnce() -> T>(clock: &impl Clock, work: F) -> io::Resu
 }
 
 // Looks for the least hyperperiod up to a million: what it finds goes to standard output, and how long
-// it took to standard error.
+// it took to standard error. No clause can name either: what is found is promised by `seek`.
 pub fn search<B: Book>(rt: &(impl Print + Eprint + Clock), name: &str, book: &B) -> io::Result<()> {
     let (found, micros) = timed(rt, || seek(book, 1_000_000))?;
     match found {
