@@ -27,11 +27,12 @@ const PRIMES: [Only; 16] = [
 ];
 
 fn main(rt: HostRuntime) -> io::Result<()> {
-    search(&rt, "four ranges", &entered(&FOUR_RANGES))?;
+    let _ = search(&rt, "four ranges", &entered(&FOUR_RANGES))?;
     // No number up to a million is a multiple of them all.
-    search(&rt, "sixteen lists of one prime", &entered(&PRIMES))?;
+    let _ = search(&rt, "sixteen lists of one prime", &entered(&PRIMES))?;
     let low = SideBySide::new(four_grids(2, 3, 5, 7), four_grids(11, 13, 17, 19));
-    search(&rt, "eight coprime grids", &low)?;
+    let _ = search(&rt, "eight coprime grids", &low)?;
     let high = SideBySide::new(four_grids(23, 29, 31, 37), four_grids(41, 43, 47, 53));
-    search(&rt, "sixteen coprime grids", &SideBySide::new(low, high))
+    let _ = search(&rt, "sixteen coprime grids", &SideBySide::new(low, high))?;
+    Ok(())
 }

@@ -29,11 +29,12 @@ fn run(rt: &HostRuntime) -> anyhow::Result<()> {
 }
 
 fn search_ranges_and_lists(rt: &HostRuntime) -> io::Result<()> {
-    search(rt, "four ranges", &entered(&FOUR_RANGES))?;
+    let _ = search(rt, "four ranges", &entered(&FOUR_RANGES))?;
     let never = on_sheets(&table::WIDE, &table::BESIDE_WIDE);
-    search(rt, "eight wide ranges beside eight lists", &never)?;
+    let _ = search(rt, "eight wide ranges beside eight lists", &never)?;
     let late = on_sheets(&table::LATE_RANGES, &table::LATE_LISTS);
-    search(rt, "ten wide ranges beside six lists", &late)
+    let _ = search(rt, "ten wide ranges beside six lists", &late)?;
+    Ok(())
 }
 
 // The book that two sheets make.
@@ -43,9 +44,10 @@ fn on_sheets(first: &[Range], second: &[List]) -> Grid<SideBySide<RangeBook, Lis
 
 fn search_grids(rt: &HostRuntime) -> io::Result<()> {
     let low = SideBySide::new(four_grids(2, 3, 5, 7), four_grids(11, 13, 17, 19));
-    search(rt, "eight coprime grids", &low)?;
+    let _ = search(rt, "eight coprime grids", &low)?;
     let mixed = SideBySide::new(low, entered(&table::WIDE));
-    search(rt, "eight coprime grids beside eight wide ranges", &mixed)
+    let _ = search(rt, "eight coprime grids beside eight wide ranges", &mixed)?;
+    Ok(())
 }
 
 // Answers the sheets, and prints how long the text is and its first line.

@@ -1,7 +1,8 @@
 ghost use Rattle.std.specs.Prelude.{IfOk};
+ghost use Rattle.planning.specs.Refusals.{Sought};
 
 use books::Book;
-use planning::seek;
+use planning::{Refusal, seek};
 use std::io;
 use std::io::{Eprint, Print};
 use std::time::{Clock, Instant};
@@ -18,13 +19,20 @@ pub fn timed<T: Drop, F: FnOnce() -> T>(clock: &impl Clock, work: F) -> io::Resu
     Ok((answer, took.as_micros()))
 }
 
-// Looks for the least hyperperiod up to a million: what it finds goes to standard output, and how long
-// it took to standard error. No clause can name either: what is found is promised by `seek`.
-pub fn search<B: Book>(rt: &(impl Print + Eprint + Clock), name: &str, book: &B) -> io::Result<()> {
+// Looks for the least hyperperiod up to a million, and answers what it finds, which also goes to standard
+// output; how long it took goes to standard error.
+pub fn search<B: Book>(
+    rt: &(impl Print + Eprint + Clock),
+    name: &str,
+    book: &B,
+) -> io::Result<Result<u32, Refusal>>
+    ensures { IfOk result (Sought (B.Book.means book.now) 1000000) }
+{
     let (found, micros) = timed(rt, || seek(book, 1_000_000))?;
     match found {
         Ok(number) => println!(rt; "{name}: {number}")?,
         Err(refusal) => println!(rt; "{name}: refused,{}", refusal.number())?,
     }
-    eprintln!(rt; "{name}: {micros} microseconds")
+    eprintln!(rt; "{name}: {micros} microseconds")?;
+    Ok(found)
 }
