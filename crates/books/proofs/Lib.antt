@@ -1,5 +1,6 @@
 mod Multiples
 mod Rising
+mod ListsFair
 pub mod FirstNo
 mod QuestionsPassed
 mod AskedOfList

@@ -1,5 +1,5 @@
-use Rattle.std.proofs.Common.{◌≡◌, ℕ, ◌+◌, ◌-◌, ◌*◌, ◌/◌, ◌%◌, ◌<◌, ◌≤◌, sym, ap, ◌∙◌, ⊎_elim, arith}
-use Rattle.std.proofs.lemmas.Bool.{cases_eq}
+use Rattle.std.proofs.Common.{◌≡◌, ℕ, ◌+◌, ◌-◌, ◌*◌, ◌/◌, ◌%◌, ◌<◌, ◌≤◌, Bool, true, sym, ap, ◌∙◌, ⊎_elim, arith}
+use Rattle.std.proofs.lemmas.Bool.{cases_eq, cases_lt}
 use Rattle.std.proofs.Math.Nat.{mod-le, mod_self}
 use Rattle.std.specs.Int.{next_multiple_of}
 use Rattle.std.proofs.lemmas.Nat.{div-add-mod', mod-mul-add, mod_below}
@@ -28,3 +28,12 @@ no_multiple_below n step some below whole =
     let zeros : 0 * step + n ≡ n = omega arith in
     let left : n % step ≡ n = ap (λ k. k % step) (sym zeros) ∙ mod-mul-add 0 step n below in
     omega arith
+
+-- Where no multiple passes the test up to `at`, none stands from there to `up`, and nothing passes from
+-- there to `end`, no multiple passes up to `end`.
+pub no_multiple_passes : (test : ℕ → Bool) (step from at up end : ℕ) → ((n : ℕ) → from ≤ n → n < at → test n ≡ true → n % step ≡ 0 → ⊥) → ((n : ℕ) → at ≤ n → n < up → n % step ≡ 0 → ⊥) → ((n : ℕ) → up ≤ n → n < end → test n ≡ true → ⊥) → (n : ℕ) → from ≤ n → n < end → test n ≡ true → n % step ≡ 0 → ⊥
+no_multiple_passes test step from at up end before between after n low high passes whole =
+    ⊎_elim
+    (λ b. before n low b passes whole)
+    (λ a. ⊎_elim (λ b. between n a b whole) (λ u. after n u high passes) (cases_lt n up))
+    (cases_lt n at)

@@ -1,6 +1,5 @@
 ghost use Rattle.std.specs.Prelude.{◌≡◌};
 ghost use Rattle.books.specs.Sets.{gridded, gridded_of};
-ghost use Rattle.std.proofs.Common.{rules};
 
 use crate::book::Book;
 use crate::period::LONGEST_PERIOD;
@@ -24,8 +23,6 @@ impl<B: Book> Grid<B> {
 
 impl<B: Book> Book for Grid<B> {
     ghost means = { gridded_of B.Book.means };
-
-    ghost fair = { Prim.search rules };
 
     fn count(&self) -> u32 {
         self.book.count()

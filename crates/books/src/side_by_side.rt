@@ -1,6 +1,5 @@
 ghost use Rattle.std.specs.Prelude.{◌≡◌};
 ghost use Rattle.books.specs.Sets.{beside, beside_of};
-ghost use Rattle.std.proofs.Common.{rules};
 
 use crate::book::Book;
 
@@ -24,17 +23,16 @@ impl<F: Book, S: Book> SideBySide<F, S> {
 impl<F: Book, S: Book> Book for SideBySide<F, S> {
     ghost means = { beside_of F.Book.means S.Book.means };
 
-    ghost fair = { Prim.search rules };
-
     fn count(&self) -> u32 {
         (self.first.count() + self.second.count()).min(17)
     }
 
     fn allows(&self, task: u32, period: u32) -> bool {
-        if task >= 17 {
+        let first = self.first.count();
+        let second = self.second.count();
+        if task >= 17 || task >= first + second {
             return false;
         }
-        let first = self.first.count();
         if task < first {
             self.first.allows(task, period)
         } else {
@@ -44,10 +42,11 @@ impl<F: Book, S: Book> Book for SideBySide<F, S> {
 
     // The same two cases as above: the two books have two types, so no value could hand out the one asked.
     fn next_allowed(&self, task: u32, from: u32) -> Option<u32> {
-        if task >= 17 {
+        let first = self.first.count();
+        let second = self.second.count();
+        if task >= 17 || task >= first + second {
             return None;
         }
-        let first = self.first.count();
         if task < first {
             self.first.next_allowed(task, from)
         } else {

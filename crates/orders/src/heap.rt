@@ -5,15 +5,15 @@ ghost use Rattle.std.specs.List.Sorted.{IsPermutation};
 use crate::ranked::Ranked;
 use crate::sift::{heapify, retire_first, sift_up};
 
-// A heap over lent memory: the first `len` places hold its elements, in heap order.
+// A heap over lent memory: the first `len` places hold its elements.
 // A slice with a length beside it, since the memory is its user's and anything may lie behind the
-// elements.
+// elements. That they are in heap order is promised by each call and is no ghost field: it would bind the
+// type to the order, and then no type over another kind of element could hold a heap.
 #[derive(Drop)]
-pub struct Heap<'a, T: Ranked> {
+pub struct Heap<'a, T> {
     slots: &'a mut [T],
     len: usize,
     ghost few: { len ≤ length slots.now },
-    ghost sound: { Sound T.Ranked.le (take len slots.now) },
 }
 
 impl<'a, T: Ranked + Copy> Heap<'a, T> {
@@ -26,6 +26,7 @@ impl<'a, T: Ranked + Copy> Heap<'a, T> {
         ensures rest { drop len (memory result) ≡ drop len slots.old }
         ensures room { room result ≡ length slots.old }
         ensures len { length (held result) ≡ min len (length slots.old) }
+        ensures sound { Sound T.Ranked.le (held result) }
         ensures lender { result.slots.ghost_name ≡ slots.entry.ghost_name }
     {
         let count = len.min(slots.len());
@@ -48,6 +49,7 @@ impl<'a, T: Ranked + Copy> Heap<'a, T> {
         ensures rest { drop (length (held self.new)) (memory self.new) ≡ drop (length (held self.new)) (memory self.old) }
         ensures len { MatchBool result (length (held self.new) ≡ length (held self.old) + 1) (length (held self.new) ≡ length (held self.old)) }
         ensures room { room self.new ≡ room self.old }
+        ensures sound { Sound T.Ranked.le (held self.old) → Sound T.Ranked.le (held self.new) }
         ensures lender { self.new.slots.ghost_name ≡ self.old.slots.ghost_name }
     {
         let at = self.len;
@@ -63,10 +65,11 @@ impl<'a, T: Ranked + Copy> Heap<'a, T> {
     // Takes the least element out, and leaves it in the place that falls free.
     pub fn take(&mut self) -> Option<T>
         ensures held { MatchOption result ((held self.old ≡ []) × (self.new ≡ self.old)) (λ x. IsPermutation (held self.old) (x ∷ held self.new)) }
-        ensures least { IfSome result (λ x. Least T.Ranked.le x (held self.old)) }
+        ensures least { IfSome result (λ x. Sound T.Ranked.le (held self.old) → Least T.Ranked.le x (held self.old)) }
         ensures rest { IfSome result (λ x. drop (length (held self.new)) (memory self.new) ≡ x ∷ drop (length (held self.old)) (memory self.old)) }
         ensures len { MatchOption result (length (held self.new) ≡ 0) (λ _. length (held self.new) + 1 ≡ length (held self.old)) }
         ensures room { room self.new ≡ room self.old }
+        ensures sound { Sound T.Ranked.le (held self.old) → Sound T.Ranked.le (held self.new) }
         ensures lender { self.new.slots.ghost_name ≡ self.old.slots.ghost_name }
     {
         let count = self.len;

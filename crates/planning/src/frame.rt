@@ -1,7 +1,7 @@
 // The service of one frame: the jobs that it is open to and that lack something wait in a heap, and
 // the first of them is served as long as ticks are left.
 
-ghost use Rattle.std.specs.Prelude.{◌≡◌, ◌+◌, ◌-◌, ◌*◌, ◌<◌, ◌≤◌, min, [], ◌∷◌, ◌++◌, length, take, vec_len, slice_index, slice_set};
+ghost use Rattle.std.specs.Prelude.{◌≡◌, ◌+◌, ◌-◌, ◌*◌, ◌<◌, ◌≤◌, min, [], ◌∷◌, ◌++◌, length, take, vec_len, vec_capacity, slice_index, slice_set};
 ghost use Rattle.planning.specs.FrameRows.{FrameServed, RowsAdded, fallen};
 ghost use Rattle.planning.specs.Waits.{Holds, lacking, waits_at, waits_for};
 
@@ -25,6 +25,7 @@ impl Table {
         ensures served { FrameServed jobs.now.list.items frame size self.old.lacks.items self.new.lacks.items }
         ensures rows { RowsAdded jobs.now.list.items frame (fallen self.old.lacks.items self.new.lacks.items) self.old.rows.items self.new.rows.items }
         ensures few { vec_len self.new.rows + lacking (length jobs.now.list.items) self.new.lacks.items ≤ vec_len self.old.rows + lacking (length jobs.now.list.items) self.old.lacks.items + 1 }
+        ensures capacity { (vec_capacity self.new.rows ≡ vec_capacity self.old.rows) × (vec_capacity self.new.lacks ≡ vec_capacity self.old.lacks) }
     {
         let begin = frame * size;
         let count = gather(jobs, &self.lacks, begin, begin + size, slots);
@@ -47,6 +48,7 @@ impl Table {
         ensures lacks { self.new.lacks.items ≡ slice_set self.old.lacks.items position (slice_index self.old.lacks.items position - result) }
         ensures rows { self.new.rows.items ≡ self.old.rows.items ++ (record { frame = frame; task = first.task; job = first.job; length = result }) ∷ [] }
         ensures len { vec_len self.new.rows ≡ vec_len self.old.rows + 1 }
+        ensures capacity { (vec_capacity self.new.rows ≡ vec_capacity self.old.rows) × (vec_capacity self.new.lacks ≡ vec_capacity self.old.lacks) }
     {
         let gift = self.lacks[position].min(left);
         self.lacks[position] -= gift;

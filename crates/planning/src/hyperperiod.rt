@@ -3,6 +3,8 @@
 
 ghost use Rattle.std.specs.Prelude.{◌≡◌, ℕ, ◌<◌, ◌≤◌, MatchResult, slice_index_or};
 ghost use Rattle.orders.specs.Held.{held};
+ghost use Rattle.orders.specs.Models.{candidate_le};
+ghost use Rattle.orders.specs.Order.{Sound};
 ghost use Rattle.planning.specs.Candidates.{Found, Searched};
 ghost use Rattle.planning.specs.Refusals.{CeilingInRange, CountInRange, RangeDue, Sought, number, place};
 
@@ -65,7 +67,8 @@ impl<'a, B: Book> Search<'a, B> {
 
     // Moves the least candidate until all are at the highest number, or one has no number left.
     fn agreement(&self, candidates: &mut Heap<'_, Candidate>) -> Result<u32, Refusal>
-        requires { Searched (B.Book.means self.now.book.now) 1 (held candidates.old) }
+        requires sound { Sound candidate_le (held candidates.old) }
+        requires start { Searched (B.Book.means self.now.book.now) 1 (held candidates.old) }
         ensures { Found (B.Book.means self.now.book.now) self.now.ceiling result }
     {
         let mut highest = 1;

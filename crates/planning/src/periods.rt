@@ -2,6 +2,7 @@
 
 ghost use Rattle.std.specs.Prelude.{◌≡◌, ℕ, ◌<◌, ◌≤◌, slice_index};
 ghost use Rattle.arrayvec.specs.ArrayVec.{array_vec_len};
+ghost use Rattle.books.specs.Meaning.{Fair};
 ghost use Rattle.planning.specs.Hyperperiod.{Chosen, Serves};
 ghost use Rattle.planning.specs.Plans.{Sought as SoughtCharged};
 
@@ -33,6 +34,7 @@ pub(crate) fn chosen_periods<B: Book>(book: &B, number: u32) -> ArrayVec<u32, 16
     requires range { (1 ≤ number) × (number ≤ 1000000) }
     requires few { (B.Book.means book.now).count ≤ 16 }
     requires serves { Serves (B.Book.means book.now) number }
+    ensures fair { Fair (B.Book.means book.now) }
     ensures count { array_vec_len result ≡ (B.Book.means book.now).count }
     ensures chosen { (t : ℕ) → t < (B.Book.means book.now).count → Chosen (B.Book.means book.now) number t (slice_index result.items t) }
 {

@@ -3,7 +3,6 @@ ghost use Rattle.std.specs.Option.{SomeIff, option_copied};
 ghost use Rattle.books.specs.Periods.{Lawful};
 ghost use Rattle.books.specs.Questions.{first_no, list_questions, told};
 ghost use Rattle.books.specs.Sets.{Adds, Empty, is_among, lists_of, row_at};
-ghost use Rattle.books.specs.ListsFair.{lists_fair};
 
 use crate::book::Book;
 use crate::fault::EntryFault;
@@ -67,8 +66,6 @@ impl ListBook {
 
 impl Book for ListBook {
     ghost means = { lists_of };
-
-    ghost fair = { lists_fair };
 
     fn count(&self) -> u32 {
         self.used as u32

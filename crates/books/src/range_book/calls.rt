@@ -2,7 +2,6 @@ ghost use Rattle.std.specs.Prelude.{◌≡◌, ◌<◌, MatchResult};
 ghost use Rattle.std.specs.Option.{SomeIff};
 ghost use Rattle.books.specs.Questions.{range_questions, first_no, told};
 ghost use Rattle.books.specs.Sets.{Adds, Empty, range_at, ranges_of, is_within};
-ghost use Rattle.std.proofs.Common.{rules};
 
 use crate::book::Book;
 use crate::fault::EntryFault;
@@ -52,8 +51,6 @@ impl RangeBook {
 
 impl Book for RangeBook {
     ghost means = { ranges_of };
-
-    ghost fair = { Prim.search rules };
 
     fn count(&self) -> u32 {
         self.used as u32

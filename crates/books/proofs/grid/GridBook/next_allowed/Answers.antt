@@ -3,4 +3,4 @@ use Rattle.books.proofs.Multiples.{no_multiple_below}
 use Rattle.books.proofs.grid.GridBook.next_allowed.Goals as goal
 
 pub returns-then-task-count : goal.returns-then-task-count
-returns-then-task-count g c = let fair = g.met.B.Book.fair c.args.self.now.book in search (rules, no_multiple_below)
+returns-then-task-count g c = search (rules, no_multiple_below)

@@ -31,10 +31,10 @@ module _ {X : Type 0} (xs ys rest : List X) (x : X) (len m : ℕ) (is : m ≡ le
 pub returns-clause-held : goal.returns-clause-held
 returns-clause-held g c = stored c.args.self.now.slots.now c.sift_up.new.s _ c.args.x c.args.self.now.len _ (omega arith) c.if-self-at.false c.sift_up.ensures.shuffled
 
-pub invariant_of-self-2-clause-few : goal.invariant_of-self-2-clause-few
-invariant_of-self-2-clause-few g c = grind (arith, common_steps)
+pub invariant_of-self-2 : goal.invariant_of-self-2
+invariant_of-self-2 g c = grind (arith, common_steps)
 
-pub invariant_of-self-2-clause-sound : goal.invariant_of-self-2-clause-sound
-invariant_of-self-2-clause-sound g c =
+pub returns-clause-sound : goal.returns-clause-sound
+returns-clause-sound g c =
     risen c.args.self.now.slots.now c.sift_up.new.s _ c.args.x c.args.self.now.len _ (omega arith) c.if-self-at.false c.sift_up.ensures.shuffled
-    g.T.Ranked.le c.sift_up.ensures.sound c.args.self.now.sound
+    g.T.Ranked.le c.sift_up.ensures.sound

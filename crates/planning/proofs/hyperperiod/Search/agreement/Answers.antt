@@ -29,7 +29,7 @@ next g c =
 pub returns-then-least-highest : goal.returns-then-least-highest
 returns-then-least-highest g c =
     let inv = c.loop-least.invariant in
-    all_agree _ _ _ inv.2 c.in-Some.least _ c.in-Some.ensures.least c.if-least-highest.true inv.0 inv.1
+    all_agree _ _ _ inv.3 c.in-Some.least _ (c.in-Some.ensures.least inv.2) c.if-least-highest.true inv.0 inv.1
 
 pub returns-in_err-highest : goal.returns-in_err-highest
 returns-in_err-highest g c =
@@ -38,13 +38,13 @@ returns-in_err-highest g c =
     let p = err_from_is_err_and c.from_residual.result c.from_residual.ensures.1 in
     rw (p.1, p.2) (
       grind (arith, refused.value, refused.ok_part),
-      none_left m _ _ c.loop-least.invariant.2 _ _ c.in-Some.ensures.held _
+      none_left m _ _ c.loop-least.invariant.3 _ _ c.in-Some.ensures.held _
           (subst (NextServing m c.in-Some.least.task c.loop-least.highest c.args.self.now.ceiling) refused.ok_part c.next_serving-next.ensures),
     )
 
 pub loop-least-smaller : goal.loop-least-smaller
 loop-least-smaller g c =
-    nearer _ _ _ c.loop-least.invariant.2 _ _ c.in-Some.ensures.held c.args.self.now.ceiling c.in_ok-highest.highest _
+    nearer _ _ _ c.loop-least.invariant.3 _ _ c.in-Some.ensures.held c.args.self.now.ceiling c.in_ok-highest.highest _
     c.if-least-highest.false (next g c) (pushed g c)
 
 pub loop-least-preserved : goal.loop-least-preserved
@@ -52,8 +52,9 @@ loop-least-preserved g c =
     let inv = c.loop-least.invariant in (
       omega (arith, inv.0, (next g c).0),
       (next g c).1,
-      moved _ _ _ inv.2 _ _ c.in-Some.ensures.held c.args.self.now.ceiling c.in_ok-highest.highest _ (next g c) (pushed g c),
+      c.push.ensures.sound (c.in-Some.ensures.sound inv.2),
+      moved _ _ _ inv.3 _ _ c.in-Some.ensures.held c.args.self.now.ceiling c.in_ok-highest.highest _ (next g c) (pushed g c),
     )
 
 pub unreachable-requires : goal.unreachable-requires
-unreachable-requires g c = some_candidate _ _ _ c.loop-least.invariant.2 c.args.self.now.count_fits.0 c.in_default.ensures.held.0
+unreachable-requires g c = some_candidate _ _ _ c.loop-least.invariant.3 c.args.self.now.count_fits.0 c.in_default.ensures.held.0

@@ -8,5 +8,9 @@ pub agreement-requires : goal.agreement-requires
 agreement-requires g c =
     let s = c.args.self.now in
     let long : length c.unmoved-slots.result ≡ 16 = search rules in
-    unmoved_start (g.B.Book.means s.book.now) c.unmoved-slots.result (held c.new-candidates.result) s.count_fits.1 long c.unmoved-slots.ensures
-    (subst (λ n. IsPermutation (take n c.unmoved-slots.result) (held c.new-candidates.result)) s.count_is c.new-candidates.ensures.held)
+    record {
+      sound = c.new-candidates.ensures.sound;
+      start =
+          unmoved_start (g.B.Book.means s.book.now) c.unmoved-slots.result (held c.new-candidates.result) s.count_fits.1 long c.unmoved-slots.ensures
+          (subst (λ n. IsPermutation (take n c.unmoved-slots.result) (held c.new-candidates.result)) s.count_is c.new-candidates.ensures.held);
+    }

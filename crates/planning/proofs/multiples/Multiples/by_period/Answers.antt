@@ -7,7 +7,7 @@ pub loop-period-preserved : goal.loop-period-preserved
 loop-period-preserved g c =
     let inv = c.loop-period.invariant in
     let found = c.in-Some.ensures.least in
-    let inside = (g.met.B.Book.fair c.args.self.now.book.now).inside c.args.self.now.task c.in-Some.period found.1 in
+    let inside = c.in-Some.ensures.fair.inside c.args.self.now.task c.in-Some.period found.1 in
     let more =
     period_more (asked g.B.Book.means c.args.self.now) (c.args.self.now.limit + 1) c.loop-period.best inv.2
     c.loop-period.at c.in-Some.period c.div_ceil.result c.min-best.result inv.3 found inside.1

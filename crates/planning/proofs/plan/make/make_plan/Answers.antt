@@ -74,7 +74,7 @@ returns g c =
     record {
       tasks = c.chosen_periods-periods.ensures.count;
       prepared = prepared g at;
-      work = chosen_least_work (meant g at) (g.met.B.Book.fair c.args.book.now) c.in_ok-hyperperiod.hyperperiod (figures_at c.args.figures.now) (period g at) c.chosen_periods-periods.ensures.chosen;
+      work = chosen_least_work (meant g at) c.chosen_periods-periods.ensures.fair c.in_ok-hyperperiod.hyperperiod (figures_at c.args.figures.now) (period g at) c.chosen_periods-periods.ensures.chosen;
       jobs = counted g at;
       few = c.if-jobs-gt1024.false;
       size = found.0;

@@ -15,7 +15,10 @@ pub loop-left-init : goal.loop-left-init
 loop-left-init c = (
   service_begins c.args.jobs.now.list.items c.args.frame c.args.size c.args.self.now.lacks.items (held c.new-waiting.result) c.args.self.now.rows.items
       (λ weight. sum_by-IsPermutation weight (take c.gather-count.result c.gather-count.new.slots) (held c.new-waiting.result) c.new-waiting.ensures.held ∙ (rw c.deref.ensures.value at c.gather-count.ensures.held) weight),
+  c.new-waiting.ensures.sound,
   grind (arith, nat_tests),
+  refl,
+  refl,
   refl,
 )
 
@@ -50,7 +53,7 @@ give-left-requires c =
     let is = at_position at_first c.position.result c.position.ensures in
     record {
       inside = omega (arith, is.0, c.args.jobs.now.few, c.args.jobs.now.list.ok.0);
-      room = omega (arith, some_left at_first, c.loop-left.invariant.1, c.requires.room);
+      room = omega (arith, some_left at_first, c.loop-left.invariant.2, c.requires.room);
     }
 
 pub loop-left-smaller : goal.loop-left-smaller
@@ -76,22 +79,25 @@ loop-left-preserved c =
     let fewer =
     fewer_lack jobs c.args.frame c.args.size c.args.self.now.lacks.items c.loop-left.self.lacks.items c.loop-left.left (held c.loop-left.waiting)
     c.args.self.now.rows.items c.loop-left.self.rows.items inv.0 c.in-Some.first (held c.take.new.self) c.in-Some.ensures.held
-    c.position.result c.give-left.result is.0 is.1 is.2 long c.loop-left-test.true c.args.jobs.now.order c.in-Some.ensures.least
+    c.position.result c.give-left.result is.0 is.1 is.2 long c.loop-left-test.true c.args.jobs.now.order (c.in-Some.ensures.least inv.1)
     c.give-left.new.self.lacks.items c.give-left.ensures.gift c.give-left.ensures.lacks
     in (
       service_goes_on jobs c.args.frame c.args.size c.args.self.now.lacks.items c.loop-left.self.lacks.items c.loop-left.left (held c.loop-left.waiting)
           c.args.self.now.rows.items c.loop-left.self.rows.items inv.0 c.in-Some.first (held c.take.new.self) c.in-Some.ensures.held
-          c.position.result c.give-left.result is.0 is.1 is.2 long c.loop-left-test.true c.args.jobs.now.order c.in-Some.ensures.least
+          c.position.result c.give-left.result is.0 is.1 is.2 long c.loop-left-test.true c.args.jobs.now.order (c.in-Some.ensures.least inv.1)
           c.give-left.new.self.lacks.items c.give-left.ensures.gift c.give-left.ensures.lacks c.give-left.new.self.rows.items c.give-left.ensures.rows,
-      omega (arith, fewer, some_left at_first, inv.1, c.give-left.ensures.len),
-      c.in-Some.ensures.lender ∙ inv.2,
+      c.in-Some.ensures.sound inv.1,
+      omega (arith, fewer, some_left at_first, inv.2, c.give-left.ensures.len),
+      c.in-Some.ensures.lender ∙ inv.3,
+      c.give-left.ensures.capacity.0 ∙ inv.4,
+      c.give-left.ensures.capacity.1 ∙ inv.5,
     )
 
 pub shape_of-slots-in-loop-left : goal.shape_of-slots-in-loop-left
-shape_of-slots-in-loop-left c = sym (c.loop-left.invariant.2 ∙ c.new-waiting.ensures.lender)
+shape_of-slots-in-loop-left c = sym (c.loop-left.invariant.3 ∙ c.new-waiting.ensures.lender)
 
 pub shape_of-slots-in_default : goal.shape_of-slots-in_default
-shape_of-slots-in_default c = sym (c.in_default.ensures.lender ∙ c.loop-left.invariant.2 ∙ c.new-waiting.ensures.lender)
+shape_of-slots-in_default c = sym (c.in_default.ensures.lender ∙ c.loop-left.invariant.3 ∙ c.new-waiting.ensures.lender)
 
 pub returns-clause-served : goal.returns-clause-served
 returns-clause-served c =

@@ -6,6 +6,7 @@ use Rattle.books.specs.Periods.{Lawful, periods_of}
 use Rattle.books.specs.Sets.{is_among, lists_of, periods_at, row_at}
 use Rattle.books.specs.declared.list_book.ListBook.{ListBook}
 use Rattle.books.specs.declared.list_book.PeriodRow.{PeriodRow}
+use Rattle.books.proofs.ListsFair.{lists_fair}
 use Rattle.books.proofs.Rising.{least_of_row}
 use Rattle.books.proofs.list_book.calls.ListBookBook.next_allowed.Goals as goal
 
@@ -19,4 +20,10 @@ least_listed b task from row r own is lawful found =
 pub returns : goal.returns
 returns c =
     let row = c.in_ok-row.ensures in
-    record { least = least_listed c.args.self.now c.args.task c.args.from c.in_ok-row.field-0.now _ row.value.0 row.value.1 row.lawful c.next_from.ensures.value }
+    record {
+      least = least_listed c.args.self.now c.args.task c.args.from c.in_ok-row.field-0.now _ row.value.0 row.value.1 row.lawful c.next_from.ensures.value;
+      fair = lists_fair c.args.self.now;
+    }
+
+pub returns-in_err-row-clause-fair : goal.returns-in_err-row-clause-fair
+returns-in_err-row-clause-fair c = lists_fair c.args.self.now

@@ -1,4 +1,3 @@
--- The law of the trait for books of lists, shown. It says nothing that a contract cites.
 use Rattle.std.proofs.Common.{◌≡◌, ℕ, ◌<◌, true, eqb, List, [], get_or, take, sym, ◌∙◌, arith}
 use Rattle.std.proofs.lemmas.Bool.{and_parts, eqb-true, ltb-true, leb-true}
 use Rattle.std.proofs.lemmas.List.{get_or-take, get_or_read, length-take}
