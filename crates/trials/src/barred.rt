@@ -1,5 +1,4 @@
 ghost use Rattle.trials.specs.Trials.{barred_of};
-ghost use Rattle.std.proofs.Common.{rules};
 
 use books::Book;
 
@@ -11,8 +10,6 @@ pub struct Barred {
 
 impl Book for Barred {
     ghost means = { barred_of };
-
-    ghost fair = { Prim.search rules };
 
     fn count(&self) -> u32 {
         self.tasks.min(17)

@@ -1,5 +1,4 @@
 ghost use Rattle.trials.specs.Trials.{odd_ones_of};
-ghost use Rattle.std.proofs.Common.{rules};
 
 use books::Book;
 
@@ -15,8 +14,6 @@ pub struct OddOnes;
 
 impl Book for OddOnes {
     ghost means = { odd_ones_of };
-
-    ghost fair = { Prim.search rules };
 
     fn count(&self) -> u32 {
         TASKS
