@@ -19,4 +19,4 @@ pub use lines::Lines;
 pub use periods::{List, Only, Range};
 pub use plan_space::PlanSpace;
 pub use task::{InLine, Task, figures_of};
-pub use timing::{search, timed};
+pub use timing::search;

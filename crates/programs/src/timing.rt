@@ -7,18 +7,6 @@ use std::io;
 use std::io::{Eprint, Print};
 use std::time::{Clock, Instant};
 
-// What the work answers, and how many microseconds it took. It asks that the work may be called, which every
-// closure with no `requires` of its own meets.
-pub fn timed<T: Drop, F: FnOnce() -> T>(clock: &impl Clock, work: F) -> io::Result<(T, u128)>
-    requires { F.IsAlwaysCallable work }
-    ensures { IfOk result (λ r. F.post work r.0) }
-{
-    let start = Instant::now(clock)?;
-    let answer = work();
-    let took = start.elapsed(clock)?;
-    Ok((answer, took.as_micros()))
-}
-
 // Looks for the least hyperperiod up to a million, and answers what it finds, which also goes to standard
 // output; how long it took goes to standard error.
 pub fn search<B: Book>(
@@ -28,7 +16,9 @@ pub fn search<B: Book>(
 ) -> io::Result<Result<u32, Refusal>>
     ensures { IfOk result (Sought (B.Book.means book.now) 1000000) }
 {
-    let (found, micros) = timed(rt, || seek(book, 1_000_000))?;
+    let start = Instant::now(rt)?;
+    let found = seek(book, 1_000_000);
+    let micros = start.elapsed(rt)?.as_micros();
     match found {
         Ok(number) => println!(rt; "{name}: {number}")?,
         Err(refusal) => println!(rt; "{name}: refused,{}", refusal.number())?,
