@@ -15,7 +15,7 @@ pub fn chosen_period<B: Book>(book: &B, task: u32, number: u32) -> Option<u32>
         return None;
     }
     let least = book.next_allowed(task, 1)?;
-    for times in 1..=number / least {
+    for times in 1..number / least + 1 {
         let period = number / times;
         if period * times == number && book.allows(task, period) {
             return Some(period);

@@ -41,10 +41,10 @@ past g c q d =
 pub loop-times-preserved : goal.loop-times-preserved
 loop-times-preserved g c = past g (goal.at.loop-times-preserved g c).Joined-else-period-times
 
-pub returns-else-period-times : goal.returns-else-period-times
-returns-else-period-times g c low high (q, d) =
+pub returns : goal.returns
+returns g c low high (q, d) =
     let least = c.in_ok-least.ensures.least in
     let inside = c.in_ok-least.ensures.fair.inside c.args.task q d.0 in
-    no_quotient_left c.args.number c.in_ok-least.least (c.loop-times.times + 1) q least.0
+    no_quotient_left c.args.number c.in_ok-least.least c.loop-times.times q least.0
     (least_at_most ((g.B.Book.means c.args.book.now).allowed c.args.task) 1 c.in_ok-least.least q least inside.1 d.0)
-    (omega arith) (past g (goal.at.returns-else-period-times g c).Joined-else-period-times q d)
+    (omega arith) (c.loop-times.invariant q d)
