@@ -7,6 +7,7 @@ mod NameFound
 mod NextNumber
 mod NumberRead
 mod NumbersStand
+mod PartsCounted
 mod PartsSplit
 mod PartsStand
 mod ReadSoFar
