@@ -3,6 +3,7 @@ pub mod BookOfTasks
 mod EntryPlaced
 pub mod FiguresInRange
 mod FirstFault
+mod LastPart
 mod NameFound
 mod NextNumber
 mod NumberRead

@@ -6,11 +6,11 @@ some_onto b [] = omega arith
 some_onto b (p ∷ ps) = omega arith
 
 -- There is at least one part.
-parts_some : (c : ℕ) (text : List ℕ) → 0 < length (parts c text)
+pub parts_some : (c : ℕ) (text : List ℕ) → 0 < length (parts c text)
 parts_some c [] = omega arith
 parts_some c (b ∷ bs) = elim (eqb b c) as (λ t. 0 < length (cond t ([] ∷ parts c bs) (onto b (parts c bs)))) [ true ↦ omega arith | false ↦ some_onto b (parts c bs) ]
 
-length_onto : (b : ℕ) (ps : List (List ℕ)) → 0 < length ps → length (onto b ps) ≡ length ps
+pub length_onto : (b : ℕ) (ps : List (List ℕ)) → 0 < length ps → length (onto b ps) ≡ length ps
 length_onto b [] some = absurd (omega arith)
 length_onto b (p ∷ ps) some = refl
 
