@@ -3,10 +3,12 @@ pub mod BookOfTasks
 mod EntryPlaced
 pub mod FiguresInRange
 mod FirstFault
+mod LastPart
 mod NameFound
 mod NextNumber
 mod NumberRead
 mod NumbersStand
+mod PartsCounted
 mod PartsSplit
 mod PartsStand
 mod ReadSoFar

@@ -1,8 +1,7 @@
-use Rattle.std.proofs.Common.{◌≡◌, ℕ, ◌+◌, Bool, false, cond, eqb, List, [], ◌∷◌, length, get_or, Some, None, Option, refl, ap, ◌∙◌}
+use Rattle.std.proofs.Common.{◌≡◌, ℕ, Bool, false, cond, eqb, List, [], ◌∷◌, get_or, Some, None, Option, refl, ap, ◌∙◌}
 use Rattle.std.specs.Borrow.{Bor}
-use Rattle.std.specs.List.{count_by, onto_first, slice_get, slice_split}
+use Rattle.std.specs.List.{onto_first, slice_get, slice_split}
 use Rattle.std.specs.Option.{option_map, unwrap_or}
-use Rattle.std.proofs.lemmas.List.Splits.{length-slice_split}
 use Rattle.std.proofs.lemmas.Option.{unwrap_or-slice_get}
 use denote.Param.Members.{Mut}
 use Rattle.std.specs.Fn.{CalledAt}
@@ -21,10 +20,6 @@ parts_split c [] = refl
 parts_split c (b ∷ bs) =
     ap (λ rest. cond (eqb b c) ([] ∷ rest) (onto b rest)) (parts_split c bs)
     ∙ ap (λ front. cond (eqb b c) ([] ∷ slice_split (λ b. eqb b c) bs) front) (onto_is_first b (slice_split (λ b. eqb b c) bs))
-
--- There is a part more than separators.
-pub parts_counted : (c : ℕ) (text : List ℕ) → length (parts c text) ≡ count_by (λ b. eqb b c) text + 1
-parts_counted c text = ap length (parts_split c text) ∙ length-slice_split (λ b. eqb b c) text
 
 -- Cutting a text by `split` gives its parts.
 pub parts_yielded : {F : Type 0} {s : _} (g : Mut F (Bor ℕ × Unit {0}) Bool) (c : ℕ) {f : F} (text : List ℕ) → split_rest s ≡ text → split_done s ≡ false → split_callee s ≡ f

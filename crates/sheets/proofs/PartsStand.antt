@@ -1,15 +1,12 @@
 use Rattle.std.proofs.Common.{◌≡◌, ℕ, zero, suc, ◌<◌, List, [], ◌∷◌, ◌++◌, length, get_or, sym, refl, ap, ◌∙◌, inl, inr, arith}
 use Rattle.std.proofs.lemmas.Bool.{cases_eq, eq-eqb, ne_eqb}
 use Rattle.sheets.specs.Text.{Cuts, Lacks, PartsStand, joined_by, onto, parts}
+use Rattle.sheets.proofs.PartsCounted.{some_onto}
 
 -- A text that lacks the separator is its only part.
 parts_last : (c : ℕ) (text : List ℕ) → Lacks c text → parts c text ≡ text ∷ []
 parts_last c [] lacks = refl
 parts_last c (b ∷ bs) lacks = rw (ne_eqb b c (lacks 0 (omega arith)), parts_last c bs (λ k h. lacks (suc k) (omega arith)))
-
-some_onto : (b : ℕ) (ps : List (List ℕ)) → 0 < length (onto b ps)
-some_onto b [] = omega arith
-some_onto b (p ∷ ps) = omega arith
 
 -- None of the parts has the separator in it.
 abbrev Clean : ℕ → List (List ℕ) → Type 0

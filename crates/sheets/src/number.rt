@@ -4,12 +4,15 @@ ghost use Rattle.sheets.specs.Steps.{NumberRead};
 pub(crate) fn parse_number(bytes: &[u8]) -> Option<u32>
     ensures { NumberRead bytes.now result }
 {
-    if !(1..=6).contains(&bytes.len())
-        || bytes[0] == b'0'
-        || !bytes.iter().all(u8::is_ascii_digit)
-    {
+    if !(1..=6).contains(&bytes.len()) || bytes[0] == b'0' {
         return None;
     }
-    let number = str::from_utf8(bytes).ok()?.parse().ok()?;
+    let mut number = 0;
+    for byte in bytes {
+        if !byte.is_ascii_digit() {
+            return None;
+        }
+        number = number * 10 + u32::from(*byte - b'0');
+    }
     (number <= 200_000).then_some(number)
 }

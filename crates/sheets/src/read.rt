@@ -14,7 +14,7 @@ use crate::field::Line;
 use crate::names::check_name;
 use crate::sheet_book::SheetBook;
 use crate::tasks::Tasks;
-use crate::text::{count_parts, part};
+use crate::text::count_parts;
 use arrayvec::ArrayVec;
 use books::{ListBook, RangeBook};
 use planning::Figures;
@@ -57,7 +57,7 @@ fn check_whole(sheet: &[u8]) -> Result<usize, SheetFault>
         return Err(SheetFault::TooLong);
     }
     let lines = count_parts(sheet, b'\n') - 1;
-    if !part(sheet, b'\n', lines).is_empty() {
+    if sheet.last().is_some_and(|byte| *byte != b'\n') {
         return Err(SheetFault::LineUnended {
             line: lines as u32 + 1,
         });

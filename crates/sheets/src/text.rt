@@ -9,7 +9,13 @@ pub(crate) fn count_parts(text: &[u8], separator: u8) -> usize
     ensures some { 1 ≤ result }
     ensures few { result ≤ length text.now + 1 }
 {
-    text.iter().filter(|byte| **byte == separator).count() + 1
+    let mut count = 1;
+    for byte in text {
+        if *byte == separator {
+            count += 1;
+        }
+    }
+    count
 }
 
 // The part that has so many before it; empty beyond the last.
