@@ -39,5 +39,5 @@ returns c =
       digits = own.from c.args.bytes.now digits;
       some = grind (arith, nat_tests);
       few = grind (arith, nat_tests);
-      first = c.if-bytes-eq48.false;
+      first = search rules;
     }))
