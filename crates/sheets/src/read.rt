@@ -46,7 +46,7 @@ fn read<B: SheetBook + Drop>(sheet: &[u8]) -> Result<Tasks<B>, SheetFault>
         let line = Line::at(sheet, before);
         figures.push(read_line(line, &mut book)?);
     }
-    Ok(Tasks { book, figures })
+    Ok(Tasks::new(book, figures))
 }
 
 // Refuses a sheet that is too long, or whose last line does not end; answers how many lines there are.

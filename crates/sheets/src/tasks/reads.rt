@@ -1,9 +1,8 @@
-ghost use Rattle.std.specs.Prelude.{◌≡◌, ◌≤◌, length};
+ghost use Rattle.std.specs.Prelude.{◌≡◌, length};
 ghost use Rattle.sheets.specs.Reads.{figures_held};
 
 use crate::tasks::Tasks;
 use books::Book;
-use planning::Figures;
 
 impl<B: Book> Tasks<B> {
     // How many tasks there are.
@@ -11,15 +10,6 @@ impl<B: Book> Tasks<B> {
         ensures { result ≡ length (figures_held self.now) }
     {
         self.figures.len()
-    }
-
-    // The figures of the tasks, in their order.
-    pub fn figures(&self) -> &[Figures]
-        ensures value { result.now ≡ figures_held self.now }
-        ensures len { length result.now ≡ length (figures_held self.now) }
-        ensures few { length result.now ≤ 16 }
-    {
-        self.figures.as_slice()
     }
 
     // The book of the tasks' periods.

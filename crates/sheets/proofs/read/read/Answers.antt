@@ -26,13 +26,11 @@ loop-before-preserved g c =
     rw c.push.ensures.items
     (line_more g.B.SheetBook.layout c.args.sheet.now at.before (g.B.Book.means at.book) (g.B.Book.means c.read_line.new.book) at.figures.items c.in_ok-read_line.field-0 there at.invariant (rw (c.at-line.ensures.sheet, place) at entered.answer) (rw text at entered.after))
 
-pub invariant_of-result : goal.invariant_of-result
-invariant_of-result g c = let so = c.loop-before.invariant in record { few = omega arith }
-
 pub returns : goal.returns
 returns g c =
     let whole = c.in_ok-lines.ensures in
     let at = c.loop-before in
     let end : at.before ≡ length (lines_of c.args.sheet.now) = omega (arith, whole.1, c.loop-before-test.false, at.auto.before-end) in
-    all_read g.B.Book.means g.B.SheetBook.layout c.args.sheet.now _ whole.0
-    (subst (λ n. ReadSoFar g.B.SheetBook.layout c.args.sheet.now n (g.B.Book.means at.book) at.figures.items) end at.invariant)
+    let held = c.new.ensures in
+    all_read g.B.Book.means g.B.SheetBook.layout c.args.sheet.now c.new.result whole.0
+    (rw (held.book, held.figures) (subst (λ n. ReadSoFar g.B.SheetBook.layout c.args.sheet.now n (g.B.Book.means at.book) at.figures.items) end at.invariant))
