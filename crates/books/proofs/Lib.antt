@@ -1,6 +1,7 @@
 mod Multiples
 mod Rising
-mod ListsFair
+pub mod ListsFair
+pub mod BooksFair
 pub mod FirstNo
 mod QuestionsPassed
 mod AskedOfList
